@@ -1,0 +1,4 @@
+pub mod Integers
+pub mod Script
+pub mod Steps
+pub mod Words

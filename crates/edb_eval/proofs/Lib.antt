@@ -1,0 +1,9 @@
+pub mod Heart
+pub mod Depths
+pub mod Feeds
+pub mod Moves
+pub mod CallLaws
+pub mod GlanceLaws
+pub mod Nexts
+pub mod LevelLaws
+pub mod Stays

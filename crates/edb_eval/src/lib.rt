@@ -1,0 +1,14 @@
+//! The machine that makes the moves of one running expression.
+#![tactic(auto, using(edb_lang::proofs::Lists::lists, crate::proofs::Feeds::feeds))]
+
+mod calls;
+mod focus;
+mod frames;
+mod glance;
+mod machine;
+mod reasons;
+mod running;
+mod stack;
+
+pub use glance::Kind;
+pub use machine::Machine;

@@ -1,0 +1,7 @@
+pub mod Faults
+pub mod Reads
+pub mod Writes
+pub mod Calls
+pub mod Held
+pub mod MemFiles
+pub mod MemSink

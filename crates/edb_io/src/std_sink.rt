@@ -1,0 +1,51 @@
+//! The standard output.
+
+ghost use Rattle.std.specs.Prelude.{◌≡◌, false, None};
+
+use crate::writing::{Sink, SinkFault};
+
+/// The standard output. What was written to it is not told to contracts. Each error of the system is a
+/// fault that is counted, and so is a write that takes nothing.
+#[derive(Drop)]
+pub struct StdSink<R: Print + Drop> {
+    rt: R,
+    faults: u64,
+    flagged: bool,
+}
+
+impl<R: Print + Drop> StdSink<R> {
+    /// The standard output of this runtime, with the flag false.
+    pub fn new(rt: R) -> Self
+        ensures faults { ⟦<StdSink<R> as Sink>⟧.faults result ≡ 0 }
+        ensures flagged { ⟦<StdSink<R> as Sink>⟧.flagged result ≡ false }
+    {
+        StdSink {
+            rt,
+            faults: 0,
+            flagged: false,
+        }
+    }
+}
+
+impl<R: Print + Drop> Sink for StdSink<R> {
+    ghost written = { λ _. None };
+
+    ghost faults = { λ sink. sink.faults };
+
+    ghost flagged = { λ sink. sink.flagged };
+
+    fn write(&mut self, piece: &[u8]) -> Result<(), SinkFault> {
+        let mut rest = piece;
+        while !rest.is_empty() {
+            match self.rt.write_some(rest) {
+                Ok(0) | Err(_) => {
+                    self.faults = self.faults.saturating_add(1);
+                    self.flagged = true;
+                    return Err(SinkFault::Failed);
+                }
+                Ok(count) => rest = &rest[count..],
+            }
+        }
+        Ok(())
+    }
+}

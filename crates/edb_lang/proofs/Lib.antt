@@ -1,0 +1,6 @@
+pub mod Lists
+pub mod OrderLaws
+pub mod PairsLaws
+pub mod OrderChain
+pub mod Measures
+pub mod Rows

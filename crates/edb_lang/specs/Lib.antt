@@ -1,0 +1,14 @@
+pub mod Terms
+pub mod Order
+pub mod Pairs
+pub mod Syntax
+pub mod Stored
+pub mod SyntaxCodes
+pub mod SyntaxViews
+pub mod SyntaxFalls
+pub mod TermCodes
+pub mod TermViews
+pub mod TermFalls
+pub mod Limits
+pub mod Places
+pub mod TermText

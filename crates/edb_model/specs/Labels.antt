@@ -1,0 +1,43 @@
+-- Labels: the steps of a plain run, which has no debugger in it.
+
+use Rattle.std.specs.Prelude.{◌≡◌, ℕ, List, [], ◌∷◌, ◌++◌, if◌then◌else◌, nat_lt, length, Option, None, Some}
+use Rattle.std.specs.Option.{option_and_then}
+use Rattle.edb_lang.specs.Terms.{Datum, elements}
+use Rattle.edb_lang.specs.Syntax.{ModuleTree}
+use Rattle.edb_model.specs.Running.{Run, opening_call}
+use Rattle.edb_model.specs.Move.{Next, next, is_move, moved}
+use Rattle.edb_model.specs.Plain.{Process, Plain, opening, newborn, process_at, with_process}
+use Rattle.edb_model.specs.Acts.{acted}
+
+-- process p makes a pure move; process p makes the act that is next for it; a process starts with the
+-- call of a module's function with the elements of a list
+pub data Label : Type 0 where
+  move : ℕ → Label
+  act : ℕ → Label
+  start : List ℕ → List ℕ → Datum → Label
+
+-- at most so many processes are ever made
+abbrev pub most_processes : ℕ
+most_processes = 65536
+
+abbrev pub moved_in : List ModuleTree → Plain → ℕ → Run → Plain
+moved_in code s p t = with_process s p (record (process_at s p) { running = Some (moved code s.versions t) })
+
+-- the state after a label; none where the label isn't enabled
+abbrev pub step : List ModuleTree → Plain → Label → Option Plain
+step code s (move p) =
+    option_and_then (λ (t : Run). if is_move (next t) then Some (moved_in code s p t) else None) (process_at s p).running
+step code s (act p) = option_and_then (λ (t : Run). acted s p t (next t)) (process_at s p).running
+step code s (start m f args) =
+    if nat_lt (length s.processes) most_processes
+    then Some (record s { processes = s.processes ++ newborn (opening_call m f (elements args)) ∷ [] })
+    else None
+
+-- the state after labels, each enabled after those before it; none where one isn't
+abbrev pub steps : List ModuleTree → Plain → List Label → Option Plain
+steps code s [] = Some s
+steps code s (l ∷ ls) = option_and_then (λ (t : Plain). steps code t ls) (step code s l)
+
+-- a plain run: labels that lead from the opening state to this one
+abbrev pub IsPlainRun : List ModuleTree → List Label → Plain → Type 0
+IsPlainRun code labels s = steps code (opening code) labels ≡ Some s

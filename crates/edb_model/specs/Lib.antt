@@ -1,0 +1,6 @@
+pub mod Running
+pub mod Lookup
+pub mod Move
+pub mod Plain
+pub mod Acts
+pub mod Labels

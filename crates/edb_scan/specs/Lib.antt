@@ -1,0 +1,11 @@
+pub mod DigitFronts
+pub mod FirstByte
+pub mod Fronts
+pub mod Letters
+pub mod Lexis
+pub mod Numerals
+pub mod Parting
+pub mod Quotation
+pub mod QuoteFronts
+pub mod RowFronts
+pub mod Spellings

@@ -1,0 +1,14 @@
+pub mod Turns
+pub mod Levels
+pub mod Spelled
+pub mod Sound
+pub mod SoundTrees
+pub mod SoundModule
+pub mod Complete
+pub mod CompleteTrees
+pub mod CompleteModule
+pub mod Counts
+pub mod Names
+pub mod Texts
+pub mod Small
+pub mod Whole

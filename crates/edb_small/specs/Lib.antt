@@ -1,0 +1,5 @@
+pub mod Grammar
+pub mod Conditions
+pub mod SmallModule
+pub mod Descent
+pub mod Checks
