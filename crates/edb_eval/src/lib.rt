@@ -6,9 +6,11 @@ mod focus;
 mod frames;
 mod glance;
 mod machine;
+mod process;
 mod reasons;
 mod running;
 mod stack;
 
 pub use glance::Kind;
 pub use machine::Machine;
+pub use process::Process;

@@ -11,19 +11,19 @@ use Rattle.edb_lang.specs.declared.syntax.FunctionName.{FunctionName}
 use Rattle.edb_lang.specs.contracts.syntax.FunctionName as function_name
 use Rattle.edb_lang.specs.Syntax.{Pat, Exp, Exps, int, atom, variable, match, binary, call, remote, none, more, FunctionTree, ModuleTree}
 
-abbrev stored_op : Op → Gv
+abbrev pub stored_op : Op → Gv
 stored_op Add = gnum 0
 
-abbrev op_in : Gv → Op
+abbrev pub op_in : Gv → Op
 op_in _ = Add
 
 pub op_back : (o : Op) → op_in (stored_op o) ≡ o
 op_back Add = refl
 
-abbrev stored_pat : Pat → Gv
+abbrev pub stored_pat : Pat → Gv
 stored_pat (Pat.variable l x) = gcons (gnum l) (stored_name x)
 
-abbrev pat_in : Gv → Pat
+abbrev pub pat_in : Gv → Pat
 pat_in (gcons l x) = Pat.variable (number l) (name_in x)
 pat_in _ = Pat.variable 0 []
 
@@ -31,7 +31,7 @@ pub pat_back : (p : Pat) → pat_in (stored_pat p) ≡ p
 pat_back (Pat.variable l x) = ap (Pat.variable l) (name_back x)
 
 abbrev mutual
-  stored_exp : Exp → Gv
+  pub stored_exp : Exp → Gv
   stored_exp (int l i) = gcons (gnum 0) (gcons (gnum l) (stored_int i))
   stored_exp (atom l a) = gcons (gnum 1) (gcons (gnum l) (stored_name a))
   stored_exp (variable l x) = gcons (gnum 2) (gcons (gnum l) (stored_name x))
@@ -40,12 +40,12 @@ abbrev mutual
   stored_exp (call l f es) = gcons (gnum 5) (gcons (gnum l) (gcons (stored_name f) (stored_exps es)))
   stored_exp (remote l m f es) = gcons (gnum 6) (gcons (gnum l) (gcons (stored_exp m) (gcons (stored_exp f) (stored_exps es))))
 
-  stored_exps : Exps → Gv
+  pub stored_exps : Exps → Gv
   stored_exps none = gnil
   stored_exps (more e es) = gcons (stored_exp e) (stored_exps es)
 
 abbrev mutual
-  exp_in : Gv → Exp
+  pub exp_in : Gv → Exp
   exp_in (gcons (gnum zero) (gcons l i)) = int (number l) (int_in i)
   exp_in (gcons (gnum (suc zero)) (gcons l a)) = atom (number l) (name_in a)
   exp_in (gcons (gnum (suc (suc zero))) (gcons l x)) = variable (number l) (name_in x)
@@ -55,7 +55,7 @@ abbrev mutual
   exp_in (gcons (gnum (suc (suc (suc (suc (suc (suc zero))))))) (gcons l (gcons m (gcons f es)))) = remote (number l) (exp_in m) (exp_in f) (exps_in es)
   exp_in _ = atom 0 []
 
-  exps_in : Gv → Exps
+  pub exps_in : Gv → Exps
   exps_in (gcons e es) = more (exp_in e) (exps_in es)
   exps_in _ = none
 

@@ -9,7 +9,7 @@ use Rattle.edb_lang.specs.Pairs.{Pairs}
 use Rattle.edb_lang.specs.Terms.{Datum, int, atom, reference, made, named, pid, tuple, nil, cons, Datums, none, more, Captures, uncaptured, captured}
 
 abbrev mutual
-  stored_datum : Datum → Gv
+  pub stored_datum : Datum → Gv
   stored_datum (int i) = gcons (gnum 0) (stored_int i)
   stored_datum (atom a) = gcons (gnum 1) (stored_name a)
   stored_datum (reference r) = gcons (gnum 2) (gnum r)
@@ -20,16 +20,16 @@ abbrev mutual
   stored_datum nil = gnil
   stored_datum (cons h t) = gcons (gnum 7) (gcons (stored_datum h) (stored_datum t))
 
-  stored_datums : Datums → Gv
+  pub stored_datums : Datums → Gv
   stored_datums none = gnil
   stored_datums (more t ts) = gcons (stored_datum t) (stored_datums ts)
 
-  stored_captures : Captures → Gv
+  pub stored_captures : Captures → Gv
   stored_captures uncaptured = gnil
   stored_captures (captured x t cs) = gcons (stored_name x) (gcons (stored_datum t) (stored_captures cs))
 
 abbrev mutual
-  datum_in : Gv → Datum
+  pub datum_in : Gv → Datum
   datum_in (gcons (gnum zero) i) = int (int_in i)
   datum_in (gcons (gnum (suc zero)) a) = atom (name_in a)
   datum_in (gcons (gnum (suc (suc zero))) r) = reference (number r)
@@ -40,7 +40,7 @@ abbrev mutual
   datum_in (gcons (gnum (suc (suc (suc (suc (suc (suc (suc zero)))))))) (gcons h t)) = cons (datum_in h) (datum_in t)
   datum_in _ = nil
 
-  datums_in : Gv → Datums
+  pub datums_in : Gv → Datums
   datums_in (gcons t ts) = more (datum_in t) (datums_in ts)
   datums_in _ = none
 

@@ -4,3 +4,4 @@ pub mod Move
 pub mod Plain
 pub mod Acts
 pub mod Labels
+pub mod RunningCodes

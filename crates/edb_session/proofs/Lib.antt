@@ -1,0 +1,9 @@
+pub mod Journals
+pub mod Slices
+pub mod Turns
+pub mod Keeping
+pub mod Lines
+pub mod Found
+pub mod Refusals
+pub mod Exclusions
+pub mod OneJournal

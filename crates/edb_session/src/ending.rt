@@ -1,0 +1,41 @@
+//! How a session ends.
+
+use crate::Journal;
+use edb_model::Tables;
+
+/// Why a FILE was refused.
+#[derive(Clone, Copy, PartialEq, Eq, Debug)]
+pub enum ModuleFault {
+    /// The FILE isn't a text of the small language.
+    NotYet,
+}
+
+/// How a session ended. Files are counted from the script, which is 0.
+#[derive(Clone, Copy, PartialEq, Eq, Debug)]
+pub enum End {
+    /// All was done below the greatest weight, and all was written.
+    Done,
+    /// The words aren't a script's name and a FILE's.
+    Words,
+    /// This file could not be read.
+    FileFault { file: u32 },
+    /// This FILE is no module.
+    ModuleRefused { file: u32, fault: ModuleFault },
+    /// The script is bad at this line.
+    ScriptRefused { line: u32 },
+    /// The journal reached its greatest weight, and all was written.
+    Limit,
+    /// A write failed.
+    WriteFault,
+    /// Memory was refused.
+    NoMemory,
+}
+
+/// What a session leaves: how it ended, its journal, its tables, and the program's status.
+#[derive(Drop)]
+pub struct Ending {
+    pub end: End,
+    pub journal: Journal,
+    pub tables: Tables,
+    pub status: u8,
+}

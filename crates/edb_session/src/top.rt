@@ -1,0 +1,398 @@
+//! The session.
+
+ghost use Rattle.std.specs.Prelude.{◌≡◌, ◌≤◌, ◌++◌, ◌⊎◌, List, ℕ, map, string_bytes, [], ◌∷◌, true, false, IfOk, IfErr, OnOk, MatchOption, IsSomeAnd, codes};
+ghost use Rattle.std.specs.Fmt.{decimal};
+ghost use Rattle.std.specs.Option.{option_map};
+ghost use Rattle.edb_session.specs.Reading.{is_option, names_in, IsAccepted, ReadsUp};
+ghost use Rattle.edb_lang.specs.Syntax.{ModuleTree};
+ghost use Rattle.edb_small.specs.SmallModule.{IsModule};
+ghost use Rattle.edb_session.specs.Runs.{plan_with};
+ghost use Rattle.edb_session.specs.Ends.{HasCause, Leaves, Performed, IsTranscript, IsEmpty, IsWritten, KeepsFlag, IsRefusal, TriesLine, name_at, refusal_line, status_of};
+ghost use Rattle.edb_session.specs.Exact.{WordsExactly, ModuleExactly, ScriptExactly, DoneExactly, LimitExactly, IsComplete};
+ghost use Rattle.edb_model.specs.Plain.{no_tables};
+ghost use Rattle.edb_session.specs.Named.{names_of};
+
+use crate::render::write_transcript;
+use crate::world::{Outcome, run_world};
+use crate::{End, Ending, ModuleFault};
+use edb_cmds::{StartCommand, one_script, read_script};
+use edb_io::{Files, ReadFault, Sink, SinkFault};
+use edb_lang::{Bytes, Module};
+use edb_model::{Checked, Code, Rows, Tables};
+use edb_small::{one_module, read_module};
+use std::alloc::{AllocError, Global};
+
+/// The most bytes that are read of a file: one more than it may have.
+const MOST_BYTES: u32 = 1_000_001;
+
+/// The names that the words give.
+#[derive(Clone, Copy)]
+pub(crate) struct Named<'a> {
+    pub(crate) script: &'a str,
+    pub(crate) file: &'a str,
+}
+
+/// What was read and accepted.
+#[derive(Drop)]
+struct Accepted {
+    code: Code,
+    command: StartCommand,
+}
+
+/// Whether a word is an option's.
+fn is_option_word(word: &str) -> bool
+    ensures { result ≡ is_option word.now }
+{
+    match word.as_bytes() {
+        [first, _, ..] => *first == b'-',
+        _ => false,
+    }
+}
+
+/// The names in the words, where they are exactly two names.
+fn make_names(words: &[String]) -> Option<Named<'_>>
+    ensures { option_map names_of result ≡ names_in (map string_bytes words.now) }
+{
+    match words {
+        [script, file] => {
+            let script = script.as_str();
+            let file = file.as_str();
+            if is_option_word(script) {
+                return None;
+            }
+            if is_option_word(file) {
+                return None;
+            }
+            Some(Named { script, file })
+        }
+        _ => None,
+    }
+}
+
+/// Reads the script and then the FILE, and accepts the module and then the script; else tells how the
+/// session ends.
+fn prepare<F: Files>(
+    alloc: Global,
+    names: Option<Named<'_>>,
+    files: &mut F,
+) -> Result<Accepted, End>
+    ensures ok { IfOk result (λ a. IsSomeAnd (option_map names_of names.entry) (λ n. IsAccepted n (F.reads files.old) (F.reads files.new) (plan_with a.code a.command))) }
+    ensures err { IfErr result (λ end. HasCause (option_map names_of names.entry) (F.reads files.old) (F.reads files.new) (F.faults files.old) (F.faults files.new) end) }
+    ensures refusal { IfErr result IsRefusal }
+    ensures reads { ReadsUp (option_map names_of names.entry) (F.reads files.old) (F.reads files.new) }
+{
+    let Some(named) = names else {
+        return Err(End::Words);
+    };
+    let script = match files.read(alloc, named.script, MOST_BYTES) {
+        Ok(bytes) => bytes,
+        Err(ReadFault::Failed) => return Err(End::FileFault { file: 0 }),
+        Err(ReadFault::NoMemory) => return Err(End::NoMemory),
+    };
+    let file = match files.read(alloc, named.file, MOST_BYTES) {
+        Ok(bytes) => bytes,
+        Err(ReadFault::Failed) => return Err(End::FileFault { file: 1 }),
+        Err(ReadFault::NoMemory) => return Err(End::NoMemory),
+    };
+    let module = match find_module(alloc, &file) {
+        Ok(Some(module)) => module,
+        Ok(None) => {
+            return Err(End::ModuleRefused {
+                file: 1,
+                fault: ModuleFault::NotYet,
+            });
+        }
+        Err(_) => return Err(End::NoMemory),
+    };
+    let command = match read_script(alloc, script.as_slice()) {
+        Ok(Ok(command)) => command,
+        Ok(Err(fault)) => return Err(End::ScriptRefused { line: fault.line }),
+        Err(_) => return Err(End::NoMemory),
+    };
+    match code_of(alloc, module) {
+        Ok(code) => Ok(Accepted { code, command }),
+        Err(_) => Err(End::NoMemory),
+    }
+}
+
+/// The module that a FILE holds, where it is one of the small language.
+fn find_module(alloc: Global, file: &Bytes) -> Result<Option<Module>, AllocError>
+    ensures { IfOk result (λ found. MatchOption found ((m : ModuleTree) → IsModule file.now m → ⊥) (λ m. IsModule file.now m)) }
+{
+    read_module(alloc, file.as_slice())
+}
+
+/// The code that is this one module.
+fn code_of(alloc: Global, module: Module) -> Result<Code, AllocError>
+    ensures { IfOk result (λ code. code ≡ «module» ∷ []) }
+{
+    let mut code = Code::new(alloc);
+    code.add(Checked::new(module))?;
+    Ok(code)
+}
+
+/// The tables where nothing was run.
+fn empty_tables(alloc: Global) -> Tables
+    ensures { result ≡ no_tables }
+{
+    Tables {
+        processes: Rows::new(alloc),
+        names: Rows::new(alloc),
+        signals: Rows::new(alloc),
+        clock: 0,
+        output: Bytes::new(alloc),
+    }
+}
+
+/// An ending at which nothing was run.
+fn empty_ending(alloc: Global, end: End, status: u8) -> Ending
+    ensures end { result.end ≡ end }
+    ensures status { result.status ≡ status }
+    ensures empty { IsEmpty result.journal result.tables }
+{
+    Ending {
+        end,
+        journal: Rows::new(alloc),
+        tables: empty_tables(alloc),
+        status,
+    }
+}
+
+/// Runs what was accepted, and writes the transcript of its journal.
+fn perform<S: Sink>(alloc: Global, accepted: &Accepted, mut sink: S) -> (Ending, S)
+    ensures run { Performed (plan_with accepted.now.code accepted.now.command) result.0.journal result.0.tables result.0.end }
+    ensures written { IsTranscript result.0.journal (S.written sink) (S.written result.1) (S.faults sink) (S.faults result.1) result.0.end }
+    ensures flag { KeepsFlag (S.flagged sink) (S.flagged result.1) result.0.end }
+    ensures status { result.0.status ≡ status_of result.0.end }
+{
+    match run_world(alloc, &accepted.code, &accepted.command) {
+        Err(_) => (empty_ending(alloc, End::NoMemory, 8), sink),
+        Ok(outcome) => {
+            let Outcome {
+                journal,
+                tables,
+                limit,
+            } = outcome;
+            match write_transcript(alloc, journal.as_slice(), &mut sink) {
+                Ok(()) => {
+                    if limit {
+                        let ending = Ending {
+                            end: End::Limit,
+                            journal,
+                            tables,
+                            status: 6,
+                        };
+                        return (ending, sink);
+                    }
+                    let ending = Ending {
+                        end: End::Done,
+                        journal,
+                        tables,
+                        status: 0,
+                    };
+                    (ending, sink)
+                }
+                Err(SinkFault::Failed) => {
+                    let ending = Ending {
+                        end: End::WriteFault,
+                        journal,
+                        tables,
+                        status: 7,
+                    };
+                    (ending, sink)
+                }
+                Err(SinkFault::NoMemory) => {
+                    let ending = Ending {
+                        end: End::NoMemory,
+                        journal,
+                        tables,
+                        status: 8,
+                    };
+                    (ending, sink)
+                }
+            }
+        }
+    }
+}
+
+/// The name of a file, counted from the script.
+fn file_name<'a>(names: Option<Named<'a>>, file: u32) -> &'a str
+    ensures { result.now ≡ name_at (option_map names_of names.entry) file }
+{
+    match names {
+        None => "",
+        Some(named) => { if file == 0 { named.script } else { named.file } }
+    }
+}
+
+/// The line of a refusal.
+fn refusal_text(alloc: Global, names: Option<Named<'_>>, end: End) -> Result<Bytes, AllocError>
+    ensures { IfOk result (λ line. line ≡ refusal_line (option_map names_of names.entry) end) }
+{
+    let mut line = Bytes::new(alloc);
+    match end {
+        End::Words => {
+            line.extend(b"edb: words\n")?;
+            Ok(line)
+        }
+        End::FileFault { file } => {
+            line.extend(b"edb: cannot read ")?;
+            line.extend(file_name(names, file).as_bytes())?;
+            line.extend(b"\n")?;
+            Ok(line)
+        }
+        End::ModuleRefused { file, .. } => {
+            line.extend(file_name(names, file).as_bytes())?;
+            line.extend(b": not yet\n")?;
+            Ok(line)
+        }
+        End::ScriptRefused { line: number } => {
+            line.extend(file_name(names, 0).as_bytes())?;
+            line.extend(b": line ")?;
+            line.extend(number.to_string(alloc)?.as_bytes())?;
+            line.extend(b"\n")?;
+            Ok(line)
+        }
+        End::Done => Ok(line),
+        End::Limit => Ok(line),
+        End::WriteFault => Ok(line),
+        End::NoMemory => Ok(line),
+    }
+}
+
+/// How writing the line of a refusal went.
+#[derive(Clone, Copy)]
+enum LineWrite {
+    /// It was written, or the sink failed.
+    Tried,
+    /// Memory was refused, and nothing was written.
+    NoMemory,
+}
+
+/// Writes a line, where it has any bytes.
+fn write_line<S: Sink>(line: &Bytes, sink: &mut S) -> LineWrite
+    ensures { TriesLine line.now (S.written sink.old) (S.written sink.new) (S.faults sink.old) (S.faults sink.new) (S.flagged sink.old) (S.flagged sink.new) result }
+{
+    if line.is_empty() {
+        return LineWrite::Tried;
+    }
+    match sink.write(line.as_slice()) {
+        Ok(()) => LineWrite::Tried,
+        Err(SinkFault::Failed) => LineWrite::Tried,
+        Err(SinkFault::NoMemory) => LineWrite::NoMemory,
+    }
+}
+
+/// Writes the line of a refusal.
+fn write_refusal<S: Sink>(
+    alloc: Global,
+    names: Option<Named<'_>>,
+    end: End,
+    sink: &mut S,
+) -> LineWrite
+    ensures { TriesLine (refusal_line (option_map names_of names.entry) end) (S.written sink.old) (S.written sink.new) (S.faults sink.old) (S.faults sink.new) (S.flagged sink.old) (S.flagged sink.new) result }
+{
+    match refusal_text(alloc, names, end) {
+        Err(_) => LineWrite::NoMemory,
+        Ok(line) => write_line(&line, sink),
+    }
+}
+
+/// The status of an end.
+fn status(end: End) -> u8
+    ensures { result ≡ status_of end }
+{
+    match end {
+        End::Done => 0,
+        End::Words => 2,
+        End::FileFault { .. } => 3,
+        End::ModuleRefused { .. } => 4,
+        End::ScriptRefused { .. } => 5,
+        End::Limit => 6,
+        End::WriteFault => 7,
+        End::NoMemory => 8,
+    }
+}
+
+/// Writes the line of a refusal, and ends so; a fault of that write changes nothing.
+fn refuse<S: Sink>(alloc: Global, names: Option<Named<'_>>, end: End, mut sink: S) -> (Ending, S)
+    requires { IsRefusal end }
+    ensures end { (result.0.end ≡ end) ⊎ (result.0.end ≡ End.NoMemory) }
+    ensures empty { IsEmpty result.0.journal result.0.tables }
+    ensures written { IsWritten (option_map names_of names.entry) [] (S.written sink) (S.written result.1) (S.faults sink) (S.faults result.1) (S.flagged sink) (S.flagged result.1) result.0.end }
+    ensures flag { KeepsFlag (S.flagged sink) (S.flagged result.1) result.0.end }
+    ensures status { result.0.status ≡ status_of result.0.end }
+{
+    match write_refusal(alloc, names, end, &mut sink) {
+        LineWrite::Tried => (empty_ending(alloc, end, status(end)), sink),
+        LineWrite::NoMemory => (empty_ending(alloc, End::NoMemory, 8), sink),
+    }
+}
+
+/// Runs a session. The words are a script's name and a FILE's; both are read, the FILE's module is
+/// run by the script's command, and the transcript of the journal is written.
+fn run_session<F: Files, S: Sink>(
+    alloc: Global,
+    words: &[String],
+    files: &mut F,
+    sink: S,
+) -> (Ending, S)
+    ensures cause { HasCause (names_in (map string_bytes words.now)) (F.reads files.old) (F.reads files.new) (F.faults files.old) (F.faults files.new) result.0.end }
+    ensures run { Leaves (names_in (map string_bytes words.now)) (F.reads files.old) (F.reads files.new) result.0.journal result.0.tables result.0.end }
+    ensures written { IsWritten (names_in (map string_bytes words.now)) result.0.journal (S.written sink) (S.written result.1) (S.faults sink) (S.faults result.1) (S.flagged sink) (S.flagged result.1) result.0.end }
+    ensures flag { KeepsFlag (S.flagged sink) (S.flagged result.1) result.0.end }
+    ensures reads { ReadsUp (names_in (map string_bytes words.now)) (F.reads files.old) (F.reads files.new) }
+    ensures status { result.0.status ≡ status_of result.0.end }
+{
+    let names = make_names(words);
+    match prepare(alloc, names, files) {
+        Ok(accepted) => perform(alloc, &accepted, sink),
+        Err(end) => refuse(alloc, names, end, sink),
+    }
+}
+
+/// Runs a session to its end.
+///
+/// The words are a script's name and a FILE's (`Words`, status 2, where they aren't). The script is
+/// read first and then the FILE, each up to 1,000,001 bytes (`FileFault`, status 3, where a read
+/// fails). The FILE is a module of the small language (`ModuleRefused`, status 4) and the script a
+/// line `start M F LIST` (`ScriptRefused`, status 5). Then the process is run, in slices of at most
+/// 100 moves, until it ends (`Done`, status 0) or the journal's weight reaches 100,000 (`Limit`,
+/// status 6), and the transcript is written, one write for each entry that has lines. After a write
+/// that fails no more is written (`WriteFault`, status 7). `NoMemory`, status 8, comes where memory
+/// was refused. A refusal writes its one line, and a fault of that write changes nothing. The sink
+/// is handed back. docs/DEFINITIONS.md says where each of these words is defined.
+pub fn session<F: Files, S: Sink + Drop>(
+    alloc: Global,
+    words: &[String],
+    files: &mut F,
+    sink: S,
+) -> (Ending, S)
+    // Why the session ended so.
+    ensures cause { HasCause (names_in (map string_bytes words.now)) (F.reads files.old) (F.reads files.new) (F.faults files.old) (F.faults files.new) result.0.end }
+
+    // The journal is legal; struck of the debugger's entries it is a plain run of the module that was
+    // read; the tables are those that this run leaves.
+    ensures run { Leaves (names_in (map string_bytes words.now)) (F.reads files.old) (F.reads files.new) result.0.journal result.0.tables result.0.end }
+
+    // The bytes written are the transcript of the journal, a part of it after a fault, or the
+    // refusal's line.
+    ensures written { IsWritten (names_in (map string_bytes words.now)) result.0.journal (S.written sink) (S.written result.1) (S.faults sink) (S.faults result.1) (S.flagged sink) (S.flagged result.1) result.0.end }
+    ensures flag { KeepsFlag (S.flagged sink) (S.flagged result.1) result.0.end }
+    ensures reads { ReadsUp (names_in (map string_bytes words.now)) (F.reads files.old) (F.reads files.new) }
+    ensures status { result.0.status ≡ status_of result.0.end }
+
+    // Each end but that of a fault and that of refused memory comes exactly where its cause holds.
+    ensures exact_words { WordsExactly (names_in (map string_bytes words.now)) result.0.end }
+    ensures exact_module { ModuleExactly (names_in (map string_bytes words.now)) (F.reads files.old) (F.reads files.new) result.0.end }
+    ensures exact_script { ScriptExactly (names_in (map string_bytes words.now)) (F.reads files.old) (F.reads files.new) result.0.end }
+    ensures exact_done { DoneExactly (names_in (map string_bytes words.now)) (F.reads files.old) (F.reads files.new) result.0.journal (S.flagged sink) (S.flagged result.1) result.0.end }
+    ensures exact_limit { LimitExactly (names_in (map string_bytes words.now)) (F.reads files.old) (F.reads files.new) result.0.journal (S.flagged sink) (S.flagged result.1) result.0.end }
+
+    // Right words, no fault, an accepted module and an accepted script lead to Done or Limit.
+    ensures complete { IsComplete (names_in (map string_bytes words.now)) (F.reads files.old) (F.reads files.new) (F.faults files.old) (F.faults files.new) (S.faults sink) (S.faults result.1) result.0.end }
+{
+    one_module();
+    one_script();
+    run_session(alloc, words, files, sink)
+}
