@@ -41,7 +41,10 @@ impl Sink for CleanSink {
     ghost flagged = { λ sink. sink.flagged };
 
     fn write(&mut self, piece: &[u8]) -> Result<(), SinkFault> {
-        if !piece.is_empty() && self.bytes.extend(piece).is_err() {
+        if piece.is_empty() {
+            return Ok(());
+        }
+        if self.bytes.extend(piece).is_err() {
             self.flagged = true;
             return Err(SinkFault::NoMemory);
         }

@@ -35,6 +35,9 @@ impl<R: Print + Drop> Sink for StdSink<R> {
     ghost flagged = { λ sink. sink.flagged };
 
     fn write(&mut self, piece: &[u8]) -> Result<(), SinkFault> {
+        if piece.is_empty() {
+            return Ok(());
+        }
         let mut rest = piece;
         while !rest.is_empty() {
             match self.rt.write_some(rest) {

@@ -1,6 +1,6 @@
 //! A sink that pieces of bytes are written to.
 
-ghost use Rattle.std.specs.Prelude.{◌≡◌, ◌≤◌, ℕ, List, Option, Bool, true, OnOk, OnErr};
+ghost use Rattle.std.specs.Prelude.{◌≡◌, ◌≤◌, ℕ, List, [], Option, Bool, true, OnOk, OnErr, IsOk};
 ghost use Rattle.std.specs.Result.{IsErrOf};
 ghost use Rattle.edb_io.specs.Faults.{Rose};
 ghost use Rattle.edb_io.specs.Writes.{Appended, AppendedPart};
@@ -36,5 +36,6 @@ pub trait Sink {
         ensures cause { IsErrOf result SinkFault.Failed → Rose (faults self.old) (faults self.new) }
         ensures uncounted { IsErrOf result SinkFault.NoMemory → faults self.new ≡ faults self.old }
         ensures kept { OnOk result (flagged self.new ≡ flagged self.old) }
-        ensures set { OnErr result (flagged self.new ≡ true) };
+        ensures set { OnErr result (flagged self.new ≡ true) }
+        ensures empty { piece.now ≡ [] → IsOk result };
 }

@@ -37,18 +37,20 @@ fn ends_form(after: &[u8]) -> bool
     }
 }
 
-/// Whether a `.` alone stands before what comes after it.
+/// Whether a `.` alone stands before what comes after it, which ends these bytes.
 fn is_point(bytes: &[u8], after: &[u8]) -> bool
+    requires { (text : List ℕ) × (bytes.now ≡ text ++ after.now) }
     ensures { IsTrue result ↔ (bytes.now ≡ 46 ∷ after.now) }
 {
-    match bytes.strip_prefix(b".") {
-        Some(rest) => rest == after,
+    match bytes.split_first() {
+        Some((first, rest)) => *first == b'.' && rest.len() == after.len(),
         None => false,
     }
 }
 
 /// Whether a lone `.` before what comes after it is a dot.
 fn is_dot(bytes: &[u8], after: &[u8]) -> bool
+    requires { (text : List ℕ) × (bytes.now ≡ text ++ after.now) }
     ensures { IsTrue result ↔ ((bytes.now ≡ 46 ∷ after.now) × (lexis.ends_form after.now ≡ true)) }
 {
     is_point(bytes, after) && ends_form(after)

@@ -20,7 +20,7 @@ use std::alloc::{AllocError, Global};
 pub const LONGEST_FILE: usize = 1_000_000;
 
 /// The first fault of a text.
-#[derive(Clone, Copy, Drop)]
+#[derive(Clone, Copy, PartialEq, Eq, Debug)]
 pub struct ScanFault {
     /// The offset of the first byte at which no token, white space or comment begins.
     pub at: u32,

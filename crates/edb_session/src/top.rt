@@ -14,7 +14,7 @@ ghost use Rattle.edb_session.specs.Named.{names_of};
 
 use crate::render::write_transcript;
 use crate::world::{Outcome, run_world};
-use crate::{End, Ending, ModuleFault};
+use crate::{End, Ending, Journal, ModuleFault};
 use edb_cmds::{StartCommand, one_script, read_script};
 use edb_io::{Files, ReadFault, Sink, SinkFault};
 use edb_lang::{Bytes, Module};
@@ -158,6 +158,18 @@ fn empty_ending(alloc: Global, end: End, status: u8) -> Ending
     }
 }
 
+/// An ending with what a run left.
+fn ending_of(end: End, status: u8, journal: Journal, tables: Tables) -> Ending
+    ensures { result ≡ record { end = end; journal = journal; tables = tables; status = status } }
+{
+    Ending {
+        end,
+        journal,
+        tables,
+        status,
+    }
+}
+
 /// Runs what was accepted, and writes the transcript of its journal.
 fn perform<S: Sink>(alloc: Global, accepted: &Accepted, mut sink: S) -> (Ending, S)
     ensures run { Performed (plan_with accepted.now.code accepted.now.command) result.0.journal result.0.tables result.0.end }
@@ -165,53 +177,23 @@ fn perform<S: Sink>(alloc: Global, accepted: &Accepted, mut sink: S) -> (Ending,
     ensures flag { KeepsFlag (S.flagged sink) (S.flagged result.1) result.0.end }
     ensures status { result.0.status ≡ status_of result.0.end }
 {
-    match run_world(alloc, &accepted.code, &accepted.command) {
-        Err(_) => (empty_ending(alloc, End::NoMemory, 8), sink),
-        Ok(outcome) => {
-            let Outcome {
-                journal,
-                tables,
-                limit,
-            } = outcome;
-            match write_transcript(alloc, journal.as_slice(), &mut sink) {
-                Ok(()) => {
-                    if limit {
-                        let ending = Ending {
-                            end: End::Limit,
-                            journal,
-                            tables,
-                            status: 6,
-                        };
-                        return (ending, sink);
-                    }
-                    let ending = Ending {
-                        end: End::Done,
-                        journal,
-                        tables,
-                        status: 0,
-                    };
-                    (ending, sink)
-                }
-                Err(SinkFault::Failed) => {
-                    let ending = Ending {
-                        end: End::WriteFault,
-                        journal,
-                        tables,
-                        status: 7,
-                    };
-                    (ending, sink)
-                }
-                Err(SinkFault::NoMemory) => {
-                    let ending = Ending {
-                        end: End::NoMemory,
-                        journal,
-                        tables,
-                        status: 8,
-                    };
-                    (ending, sink)
-                }
+    let Ok(outcome) = run_world(alloc, &accepted.code, &accepted.command) else {
+        return (empty_ending(alloc, End::NoMemory, 8), sink);
+    };
+    let Outcome {
+        journal,
+        tables,
+        limit,
+    } = outcome;
+    match write_transcript(alloc, journal.as_slice(), &mut sink) {
+        Ok(()) => {
+            if limit {
+                return (ending_of(End::Limit, 6, journal, tables), sink);
             }
+            (ending_of(End::Done, 0, journal, tables), sink)
         }
+        Err(SinkFault::Failed) => (ending_of(End::WriteFault, 7, journal, tables), sink),
+        Err(SinkFault::NoMemory) => (ending_of(End::NoMemory, 8, journal, tables), sink),
     }
 }
 

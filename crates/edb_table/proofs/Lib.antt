@@ -1,0 +1,4 @@
+pub mod Halving
+pub mod Indexes
+pub mod MarkLemmas
+pub mod Reading

@@ -1,0 +1,3 @@
+pub mod BuiltIns
+pub mod Keys
+pub mod Marking

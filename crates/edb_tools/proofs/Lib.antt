@@ -1,0 +1,6 @@
+pub mod WordLaws
+pub mod ReadLaws
+pub mod VerdictLaws
+pub mod LineLaws
+pub mod RefusalLaws
+pub mod CauseLaws

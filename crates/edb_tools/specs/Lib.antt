@@ -1,0 +1,5 @@
+pub mod Plans
+pub mod Reads
+pub mod Verdicts
+pub mod Ends
+pub mod Causes

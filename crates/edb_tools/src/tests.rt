@@ -1,0 +1,190 @@
+//! Runs of the tool over memory, with what they write.
+
+use crate::{ToolEnd, tool};
+use edb_io::{Files, MemFiles, MemSink, Sink};
+use std::alloc::{AllocError, Global};
+use std::test::Fail;
+
+const SHOP: &[u8] =
+    b"-module(shop).\n-export([main/0]).\nmain() ->\n    X = sum(2, 3),\n    erlang:display(X).\nsum(A, B) ->\n    C = A + B,\n    C.\n";
+
+/// A string that isn't closed, at byte 12.
+const OPEN: &[u8] = b"-module(a).\n\"x";
+
+/// A string directly behind a string, at byte 22.
+const JOINED: &[u8] = b"-module(a).\nf() -> \"a\"\"b\".";
+
+/// One run: its words, the content of `a.erl`, the read and the write that fail, and what is wanted.
+#[derive(Clone, Copy)]
+struct Row<'a> {
+    words: &'a [&'a str],
+    content: &'a [u8],
+    failing_read: u32,
+    failing_write: u32,
+    status: u8,
+    file: Option<u32>,
+    written: &'a [u8],
+}
+
+/// A run through the bounds alone.
+fn run_by<F: Files, S: Sink>(
+    alloc: Global,
+    words: &[String],
+    files: &mut F,
+    sink: &mut S,
+) -> (ToolEnd, u8) {
+    tool(alloc, words, files, sink)
+}
+
+/// The file that an end names.
+fn file_of(end: ToolEnd) -> Option<u32> {
+    match end {
+        ToolEnd::FileFault { file } => Some(file),
+        ToolEnd::ModuleRefused { file, .. } => Some(file),
+        _ => None,
+    }
+}
+
+/// Whether a run ends and writes as its row wants.
+fn is_as_wanted(alloc: Global, row: &Row<'_>) -> Result<bool, AllocError> {
+    let mut files = MemFiles::new(alloc);
+    files.add("a.erl", row.content)?;
+    files.add("shop.erl", SHOP)?;
+    files.add("empty.erl", b"")?;
+    files.fail(row.failing_read)?;
+    let mut sink = MemSink::new(alloc);
+    sink.fail(row.failing_write)?;
+    let mut words = Vec::new(alloc);
+    for word in row.words {
+        words.push(String::from_str(alloc, word)?)?;
+    }
+    let (end, status) = run_by(alloc, &words, &mut files, &mut sink);
+    Ok(status == row.status && file_of(end) == row.file && sink.written() == row.written)
+}
+
+/// A row without a read or a write that fails.
+fn make_row<'a>(
+    words: &'a [&'a str],
+    content: &'a [u8],
+    status: u8,
+    file: Option<u32>,
+    written: &'a [u8],
+) -> Row<'a> {
+    Row {
+        words,
+        content,
+        failing_read: 0,
+        failing_write: 0,
+        status,
+        file,
+        written,
+    }
+}
+
+#[test]
+fn ends_and_writes(rt: HostRuntime) -> Result<(), Fail> {
+    let rows = [
+        make_row(&["check", "shop.erl"], OPEN, 0, None, b"shop.erl: ok\n"),
+        make_row(
+            &["check", "shop.erl", "empty.erl"],
+            OPEN,
+            0,
+            None,
+            b"shop.erl: ok\nempty.erl: ok\n",
+        ),
+        make_row(
+            &["check", "a.erl"],
+            OPEN,
+            4,
+            Some(0),
+            b"a.erl: scan fault at byte 12\n",
+        ),
+        make_row(
+            &["check", "a.erl"],
+            JOINED,
+            4,
+            Some(0),
+            b"a.erl: scan fault at byte 22\n",
+        ),
+        make_row(
+            &["check", "shop.erl", "a.erl"],
+            OPEN,
+            4,
+            Some(1),
+            b"a.erl: scan fault at byte 12\n",
+        ),
+        make_row(
+            &["check", "a.erl", "a.erl"],
+            OPEN,
+            4,
+            Some(0),
+            b"a.erl: scan fault at byte 12\n",
+        ),
+        make_row(&[], OPEN, 2, None, b"edbtool: words\n"),
+        make_row(&["fmt", "x"], OPEN, 2, None, b"edbtool: words\n"),
+        make_row(&["check"], OPEN, 2, None, b"edbtool: words\n"),
+        make_row(&["check", "-x"], OPEN, 2, None, b"edbtool: words\n"),
+        make_row(
+            &["check", "shop.erl", "--all"],
+            OPEN,
+            2,
+            None,
+            b"edbtool: words\n",
+        ),
+        make_row(
+            &["check", "none.erl"],
+            OPEN,
+            3,
+            Some(0),
+            b"edbtool: cannot read none.erl\n",
+        ),
+        make_row(
+            &["check", "shop.erl", "-"],
+            OPEN,
+            3,
+            Some(1),
+            b"edbtool: cannot read -\n",
+        ),
+        make_row(
+            &["check", "a.erl", "none.erl"],
+            OPEN,
+            3,
+            Some(1),
+            b"edbtool: cannot read none.erl\n",
+        ),
+    ];
+    for (place, row) in rows.iter().enumerate() {
+        assert!(rt; is_as_wanted(rt.alloc(), row)?, "row {place}");
+    }
+    Ok(())
+}
+
+#[test]
+fn faults_end_it(rt: HostRuntime) -> Result<(), Fail> {
+    let two: [&str; 3] = ["check", "shop.erl", "empty.erl"];
+    let rows: [(u32, u32, u8, Option<u32>, &[u8]); 6] = [
+        (0, 1, 7, None, b""),
+        (0, 2, 7, None, b"shop.erl: ok\n"),
+        (0, 3, 0, None, b"shop.erl: ok\nempty.erl: ok\n"),
+        (1, 0, 3, Some(0), b"edbtool: cannot read shop.erl\n"),
+        (2, 0, 3, Some(1), b"edbtool: cannot read empty.erl\n"),
+        // A fault of the write of a refusal's line changes nothing in the end.
+        (2, 1, 3, Some(1), b""),
+    ];
+    for (failing_read, failing_write, status, file, written) in rows {
+        let row = Row {
+            words: &two,
+            content: OPEN,
+            failing_read,
+            failing_write,
+            status,
+            file,
+            written,
+        };
+        assert!(rt;
+            is_as_wanted(rt.alloc(), &row)?,
+            "read {failing_read}, write {failing_write}"
+        );
+    }
+    Ok(())
+}
