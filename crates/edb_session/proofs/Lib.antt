@@ -7,3 +7,4 @@ pub mod Found
 pub mod Refusals
 pub mod Exclusions
 pub mod OneJournal
+pub mod Rows
