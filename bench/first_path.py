@@ -1,5 +1,6 @@
 #!/usr/bin/env python3
-"""Times the program on three modules and prints, for each, the pure moves, the seconds and the peak memory.
+"""Times the program on three modules, plain and interpreted, and prints for each the pure moves, the seconds and the
+peak memory.
 
 Build the program first: in crates/edb, `rt run -- ../../examples/script ../../examples/shop.erl` leaves out/edb.
 The moves are counted here by the language's rules; the program prints none. No part of the gate.
@@ -15,10 +16,10 @@ PROGRAM = os.path.join(TOP, "crates", "edb", "out", "edb")
 MOST, SLICE, NESTED = 100_000, 100, 16_384
 
 
-def moves_of_turns(first, turn, acts):
+def moves_of_turns(first, turn, acts, weight=1, moves=0):
     """The moves up to the greatest weight of a process that makes `first` moves and then turns of `turn` moves,
-    with one act behind each of both where `acts` is true."""
-    weight, moves, left = 1, 0, first
+    with one act behind each of both where `acts` is true; from this weight and number of moves on."""
+    left = first
     while weight < MOST:
         weight += 1
         budget = min(SLICE, MOST - weight)
@@ -34,11 +35,16 @@ def moves_of_turns(first, turn, acts):
     return moves
 
 
+# where the module is interpreted: the answer, the start, and a lease with one move and the Enter that ends it
+ENTERED = {"weight": 5, "moves": 1}
+
 CASES = [
     # the call, and then a Begin and a call for ever
     ("a loop", "spin", "go() -> go().", "[]", moves_of_turns(0, 0, False)),
+    ("a loop, interpreted", "spin", "go() -> go().", "[]", moves_of_turns(0, 0, False, **ENTERED)),
     # the call, and then a Begin, a variable, a sum and a call for each of the nested calls
     ("nested calls", "deep", "go(N) -> 1 + go(N + 1).", "[0]", 1 + 4 * NESTED),
+    ("nested calls, interpreted", "deep", "go(N) -> 1 + go(N + 1).", "[0]", 1 + 4 * NESTED),
     # a call, a Begin and a variable, and then a drop, a Begin, a variable, a sum, a call, a Begin and a variable
     ("a loop that displays", "show", "go(N) -> erlang:display(N), go(N + 1).", "[0]", moves_of_turns(3, 7, True)),
 ]
@@ -56,7 +62,7 @@ def peak_of(pid):
     return int(fields["VmHWM"].split()[0]) / 1024
 
 
-def run(folder, name, body, arguments):
+def run(folder, name, body, arguments, interpreted):
     """The seconds, the peak memory in MB as seen while it ran, and the status of one run."""
     module = os.path.join(folder, name + ".erl")
     script = os.path.join(folder, "script")
@@ -64,6 +70,8 @@ def run(folder, name, body, arguments):
     with open(module, "w") as file:
         file.write(f"-module({name}).\n-export([go/{arity}]).\n{body}\n")
     with open(script, "w") as file:
+        if interpreted:
+            file.write(f"ii {name}\n")
         file.write(f"start {name} go {arguments}\n")
     peak = 0
     start = time.monotonic()
@@ -76,11 +84,12 @@ def run(folder, name, body, arguments):
 def main():
     if not os.path.exists(PROGRAM):
         sys.exit("bench: build crates/edb first")
-    print(f"{'case':<22} {'moves':>8} {'seconds':>8} {'MB':>6} status")
+    print(f"{'case':<26} {'moves':>8} {'seconds':>8} {'MB':>6} status")
     with tempfile.TemporaryDirectory() as folder:
         for label, name, body, arguments, moves in CASES:
-            seconds, megabytes, status = run(folder, name, body, arguments)
-            print(f"{label:<22} {moves:>8} {seconds:>8.3f} {megabytes:>6.1f} {status:>6}")
+            interpreted = label.endswith("interpreted")
+            seconds, megabytes, status = run(folder, name, body, arguments, interpreted)
+            print(f"{label:<26} {moves:>8} {seconds:>8.3f} {megabytes:>6.1f} {status:>6}")
 
 
 if __name__ == "__main__":

@@ -1,17 +1,19 @@
 -- The table: what is found in it, and what a new row changes and leaves.
 
-use Rattle.std.proofs.Common.{◌≡◌, ◌==◌, ℕ, ◌+◌, ◌<◌, ◌≤◌, suc, zero, Bool, true, false, cond, List, [], ◌∷◌, length, get_or, Option, None, Some, refl, sym, ap, arith}
+use Rattle.std.proofs.Common.{◌≡◌, ◌==◌, ℕ, ◌+◌, ◌<◌, ◌≤◌, map, ◌∙◌, suc, zero, Bool, true, false, cond, List, [], ◌∷◌, length, get_or, Option, None, Some, refl, sym, ap, arith}
 use Rattle.std.specs.Bool.{Decides}
-use Rattle.std.specs.List.{All, find}
+use Rattle.std.specs.List.{All, AllPairs, find}
 use Rattle.std.specs.Option.{option_map, option_or}
 use Rattle.std.proofs.lemmas.Bool.Decides.{Decides-and, Decides-eqb, not_from_Decides}
-use Rattle.std.proofs.lemmas.List.Elements.{All-nil, All-cons, All-head, All-tail, All-push, All-weaker}
+use Rattle.std.proofs.lemmas.List.{get_or-map, length-map}
+use Rattle.std.proofs.lemmas.List.Elements.{All-nil, All-cons, All-head, All-map, All-tail, All-push, All-weaker}
 use Rattle.std.proofs.lemmas.List.Folds.{find-append}
 use Rattle.std.proofs.lemmas.List.Quantifiers.{all_pairs_push}
 use Rattle.std.proofs.lemmas.Slice.Eq.{bytes_eq-Decides}
 use Rattle.edb_lang.specs.declared.small.BreakRow.{BreakRow}
+use Rattle.edb_lang.specs.declared.small.Status.TheVariants.{Active}
 use Rattle.edb_lang.specs.TermText.{same_name}
-use Rattle.edb_breaks.specs.Table.{Table, IsSound, IsAt, is_at, new_break, new_row, row_at, with_row}
+use Rattle.edb_breaks.specs.Table.{Table, IsSound, IsAt, enabled_row, is_at, is_row, new_break, new_row, row_at, with_enabled, with_row}
 
 is_at-Decides : (m : List ℕ) (l : ℕ) (r : BreakRow) → Decides (is_at m l r) (IsAt m l r)
 is_at-Decides m l r = Decides-and (same_name m r.module) (l == r.line) (bytes_eq-Decides m r.module) (Decides-eqb l r.line)
@@ -84,6 +86,39 @@ module _ (m : List ℕ) (l : ℕ) (t : Table) where
         numbered = All-push (λ r. (1 ≤ r.row.serial) × (r.row.serial ≤ t.given + 1)) t.rows row
             (λ k d h. let below = table.numbered k d h in (below.0, omega arith))
             (omega arith, omega arith);
+      }
+
+-- what holds of each two elements holds of their images, where f keeps it
+AllPairs-map : {X : Type 0} (R : X → X → Type 0) (f : X → X) → ((x y : X) → R x y → R (f x) (f y)) → (xs : List X) → AllPairs R xs → AllPairs R (map f xs)
+AllPairs-map R f keeps xs a j k d below within =
+    let long : length (map f xs) ≡ length xs = length-map xs f in
+    rw (get_or-map f xs j d d (omega arith), get_or-map f xs k d d (omega arith))
+    (keeps (get_or xs j d) (get_or xs k d) (a j k d below (omega arith)))
+
+module _ (serial : ℕ) (m : List ℕ) (l : ℕ) where
+  -- a row that is made active keeps its place and serial
+  enabled-same : (r : BreakRow) → let e = enabled_row serial m l r in (e.module ≡ r.module) × (e.line ≡ r.line) × (e.row.serial ≡ r.row.serial)
+  enabled-same r =
+      elim (is_row serial m l r) as (λ b. let e = cond b (record r { row = record r.row { status = Active } }) r in (e.module ≡ r.module) × (e.line ≡ r.line) × (e.row.serial ≡ r.row.serial)) [
+        | true ↦ (refl, refl, refl)
+        | false ↦ (refl, refl, refl)
+      ]
+
+  pub with_enabled-IsSound : (t : Table) → IsSound t → IsSound (with_enabled serial m l t)
+  with_enabled-IsSound t table =
+      let enabled = enabled_row serial m l in
+      record {
+        apart = AllPairs-map (λ r s. ¬ (IsAt r.module r.line s)) enabled (λ r s apart same.
+            let left = enabled-same r in
+            let right = enabled-same s in
+            apart (sym left.0 ∙ same.0 ∙ right.0, sym left.1 ∙ same.1 ∙ right.1)) t.rows table.apart;
+        ascending = AllPairs-map (λ r s. r.row.serial < s.row.serial) enabled (λ r s below.
+            let left = enabled-same r in
+            let right = enabled-same s in
+            rw (left.2, right.2) below) t.rows table.ascending;
+        numbered = All-map (λ r. (1 ≤ r.row.serial) × (r.row.serial ≤ t.given)) enabled t.rows
+            (All-weaker (λ r. (1 ≤ r.row.serial) × (r.row.serial ≤ t.given)) (λ r. (1 ≤ (enabled r).row.serial) × ((enabled r).row.serial ≤ t.given))
+            (λ r given. rw (enabled-same r).2 given) t.rows table.numbered);
       }
 
 pub each_found : (t : Table) → IsSound t → All (λ r. row_at r.module r.line t ≡ Some r.row) t.rows

@@ -3,7 +3,8 @@
 -- goes behind the others. It is active, has the action `enable` and no condition, and takes the next
 -- serial, which is one more than were given: so serials count from 1, and none is given twice.
 
-use Rattle.std.specs.Prelude.{◌≡◌, ℕ, ◌+◌, ◌<◌, ◌≤◌, ◌==◌, ◌&&◌, Bool, List, [], ◌∷◌, ◌++◌, Option, None, All, AllPairs, find}
+use Rattle.std.specs.Prelude.{◌≡◌, ℕ, ◌+◌, ◌<◌, ◌≤◌, ◌==◌, ◌&&◌, nat_eq, Bool, if◌then◌else◌, List, [], ◌∷◌, ◌++◌, Option, None, All, AllPairs, find, map}
+use Rattle.std.specs.List.{list_any}
 use Rattle.std.specs.Option.{option_map}
 use Rattle.edb_lang.specs.declared.small.Action.TheVariants.{Enable}
 use Rattle.edb_lang.specs.declared.small.Break.{Break}
@@ -43,6 +44,24 @@ new_row m l serial = record { «module» = m; line = l; row = new_break serial }
 -- the table with a new row at this module and line
 abbrev pub with_row : List ℕ → ℕ → Table → Table
 with_row m l t = record { rows = t.rows ++ new_row m l (t.given + 1) ∷ []; given = t.given + 1 }
+
+-- whether the row stands at this module and line and has this serial
+abbrev pub is_row : ℕ → List ℕ → ℕ → BreakRow → Bool
+is_row serial m l r = is_at m l r && nat_eq r.row.serial serial
+
+-- whether the table has the row of a serial at a place
+abbrev pub has_row : ℕ → List ℕ → ℕ → Table → Bool
+has_row serial m l t = list_any (is_row serial m l) t.rows
+
+-- a row once the breakpoint of a serial at a place was made active
+abbrev pub enabled_row : ℕ → List ℕ → ℕ → BreakRow → BreakRow
+enabled_row serial m l r =
+    if is_row serial m l r then record r { row = record r.row { status = Active } } else r
+
+-- The table once the breakpoint of a serial at a place was made active: all else is as it was, and so is
+-- the whole table where no row at the place has the serial.
+abbrev pub with_enabled : ℕ → List ℕ → ℕ → Table → Table
+with_enabled serial m l t = record t { rows = map (enabled_row serial m l) t.rows }
 
 -- what is true of every table
 pub record IsSound (t : Table) : Type 0 where

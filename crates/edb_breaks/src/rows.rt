@@ -1,10 +1,11 @@
-//! Rows of breakpoints: looked for, copied and compared.
+//! Rows of breakpoints: looked for, made active, copied and compared.
 
-ghost use Rattle.std.specs.Prelude.{◌≡◌, ◌↔◌, IsTrue, IfOk, find};
+ghost use Rattle.std.specs.Prelude.{◌≡◌, ◌↔◌, IsTrue, IfOk, find, map};
+ghost use Rattle.std.specs.List.{list_any};
 ghost use Rattle.std.specs.Option.{option_copied, option_map};
-ghost use Rattle.edb_breaks.specs.Table.{is_at};
+ghost use Rattle.edb_breaks.specs.Table.{enabled_row, is_at, is_row};
 
-use edb_lang::{Break, BreakRow, Name};
+use edb_lang::{Break, BreakRow, Name, Status};
 use std::alloc::{AllocError, Global};
 
 // The breakpoint at a place, reading from the top.
@@ -17,6 +18,40 @@ pub(crate) fn find_row<'a>(rows: &'a [BreakRow], module: &Name, line: u32) -> Op
         }
     }
     None
+}
+
+// Whether there is a row of this serial at a place.
+pub(crate) fn any_row(rows: &[BreakRow], module: &Name, line: u32, serial: u128) -> bool
+    ensures { result ≡ list_any (is_row serial «module».now line) rows.now }
+{
+    rows.iter().any(|row| {
+        module.same(&row.module) && line == row.line && row.row.serial == serial
+    })
+}
+
+// Makes the rows of this serial at a place active, and says whether there is one.
+pub(crate) fn enable_rows(rows: &mut [BreakRow], module: &Name, line: u32, serial: u128) -> bool
+    ensures found { result ≡ list_any (is_row serial «module».now line) rows.old }
+    ensures rows { rows.new ≡ map (enabled_row serial «module».now line) rows.old }
+{
+    let mut found = false;
+    for row in rows.iter_mut() {
+        if enable_row(row, module, line, serial) {
+            found = true;
+        }
+    }
+    found
+}
+
+fn enable_row(row: &mut BreakRow, module: &Name, line: u32, serial: u128) -> bool
+    ensures found { result ≡ is_row serial «module».now line row.old }
+    ensures row { row.new ≡ enabled_row serial «module».now line row.old }
+{
+    let found = module.same(&row.module) && line == row.line && row.row.serial == serial;
+    if found {
+        row.row.status = Status::Active;
+    }
+    found
 }
 
 pub(crate) fn copy_rows(alloc: Global, rows: &[BreakRow]) -> Result<Vec<BreakRow>, AllocError>

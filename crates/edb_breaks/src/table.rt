@@ -2,10 +2,10 @@
 
 ghost use Rattle.std.specs.Prelude.{◌≡◌, ◌+◌, ◌<◌, ◌^◌, ◌↔◌, None, IsTrue, IsSome, IfOk, OnOk, OnErr};
 ghost use Rattle.std.specs.Option.{option_copied};
-ghost use Rattle.edb_breaks.specs.Table.{empty_table, row_at, with_row, IsSound};
+ghost use Rattle.edb_breaks.specs.Table.{empty_table, has_row, row_at, with_enabled, with_row, IsSound};
 ghost use Rattle.edb_breaks.specs.Table as spec;
 
-use crate::rows::{copy_rows, find_row, same_rows};
+use crate::rows::{any_row, copy_rows, enable_rows, find_row, same_rows};
 use edb_lang::{Action, Break, BreakRow, Name, Status};
 use std::alloc::{AllocError, Global};
 use std::marker::Model;
@@ -71,12 +71,28 @@ impl Breaks {
         Ok(Ok(serial))
     }
 
+    /// Makes the breakpoint of this serial at a place active, and says whether the place has it; takes no
+    /// memory.
+    pub fn enable(&mut self, module: &Name, line: u32, serial: u128) -> bool
+        ensures found { result ≡ has_row serial «module».now line self.old }
+        ensures table { self.new ≡ with_enabled serial «module».now line self.old }
+    {
+        enable_rows(&mut self.rows, module, line, serial)
+    }
+
     /// The breakpoint at a place; none exactly where no row stands there.
     pub fn at(&self, module: &Name, line: u32) -> Option<&Break>
         ensures row { option_copied result ≡ row_at «module».now line self.now }
         ensures sound { IsSound self.now }
     {
         find_row(&self.rows, module, line)
+    }
+
+    /// Whether a place has the breakpoint of this serial.
+    pub fn has(&self, module: &Name, line: u32, serial: u128) -> bool
+        ensures { result ≡ has_row serial «module».now line self.now }
+    {
+        any_row(&self.rows, module, line, serial)
     }
 
     /// The rows in the order of their making; refused only for want of memory.

@@ -1,9 +1,10 @@
-//! A table that grows row by row, worked by hand.
+//! A table that grows row by row, and rows that are made active, worked by hand.
 
 ghost use Rattle.std.specs.Prelude.{◌+◌, ◌<◌, ◌≤◌, ◌^◌};
 
+use crate::rows::enable_rows;
 use crate::{Breaks, Exists};
-use edb_lang::{Action, Name, Status};
+use edb_lang::{Action, BreakRow, Name, Status};
 use std::alloc::{AllocError, Global};
 use std::test::Fail;
 
@@ -61,5 +62,44 @@ fn rows_in_the_order_of_their_making(rt: HostRuntime) -> Result<(), Fail> {
     }
     let till = Name::from_str(alloc, "till")?;
     assert!(rt; breaks.at(&till, 8).is_none());
+    Ok(())
+}
+
+fn disable(rows: &mut [BreakRow]) {
+    for row in rows.iter_mut() {
+        row.row.status = Status::Inactive;
+    }
+}
+
+#[test]
+fn the_row_of_a_serial_at_its_place_becomes_active(rt: HostRuntime) -> Result<(), Fail> {
+    let alloc = rt.alloc();
+    let mut breaks = Breaks::new(alloc);
+    add(alloc, &mut breaks, "shop", 7)?;
+    add(alloc, &mut breaks, "shop", 8)?;
+    add(alloc, &mut breaks, "till", 7)?;
+    for (module, line, serial, enabled) in [
+        ("shop", 7, 1, Some(1)),
+        ("shop", 7, 2, None),
+        ("shop", 8, 1, None),
+        ("till", 7, 1, None),
+        ("till", 7, 3, Some(3)),
+    ] {
+        let module = Name::from_str(alloc, module)?;
+        assert_eq!(rt;
+            breaks.has(&module, line, serial),
+            enabled.is_some(),
+            "{line} {serial}"
+        );
+        let found = breaks.enable(&module, line, serial);
+        assert_eq!(rt; found, enabled.is_some(), "{line} {serial}");
+        let mut rows = breaks.all()?;
+        disable(&mut rows);
+        enable_rows(&mut rows, &module, line, serial);
+        for row in &rows {
+            let active = row.row.status == Status::Active;
+            assert_eq!(rt; active, enabled == Some(row.row.serial), "{line} {serial}");
+        }
+    }
     Ok(())
 }

@@ -1,5 +1,12 @@
+pub mod FieldLaws
+pub mod KindLaws
 pub mod LineLaws
+pub mod LinesLaws
 pub mod ListLaws
 pub mod ListRuns
+pub mod ListingLaws
 pub mod ListSound
+pub mod NumberLaws
+pub mod ProgressLaws
+pub mod RangeLaws
 pub mod WordLaws

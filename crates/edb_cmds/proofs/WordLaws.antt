@@ -23,17 +23,17 @@ use Rattle.edb_cmds.specs.Words.{NoSpace, SplitsSpaces, SplitsGap, SplitsStart, 
 use Rattle.edb_cmds.proofs.ListLaws.{bare}
 use Rattle.edb_cmds.proofs.ListRuns.{one_list}
 
-spaces_one : (m n : ℕ) (x y : List ℕ) → spaces m ++ x ≡ spaces n ++ y → NoSpace x → NoSpace y → x ≡ y
+pub spaces_one : (m n : ℕ) (x y : List ℕ) → spaces m ++ x ≡ spaces n ++ y → NoSpace x → NoSpace y → x ≡ y
 spaces_one zero zero x y e h k = e
 spaces_one zero (suc n) x y e h k = absurd (h (spaces n ++ y) e)
 spaces_one (suc m) zero x y e h k = absurd (k (spaces m ++ x) (sym e))
 spaces_one (suc m) (suc n) x y e h k = let tails : spaces m ++ x ≡ spaces n ++ y = cc in spaces_one m n x y tails h k
 
 -- a gap begins with a space
-gap_head : (gap : ℕ) (rest : List ℕ) → spaces (gap + 1) ++ rest ≡ 32 ∷ (spaces gap ++ rest)
+pub gap_head : (gap : ℕ) (rest : List ℕ) → spaces (gap + 1) ++ rest ≡ 32 ∷ (spaces gap ++ rest)
 gap_head gap rest = ap (λ n. spaces n ++ rest) (add-one gap)
 
-gap_one : (text rest other : List ℕ) → SplitsGap text rest → SplitsGap text other → rest ≡ other
+pub gap_one : (text rest other : List ℕ) → SplitsGap text rest → SplitsGap text other → rest ≡ other
 gap_one text rest other h k = spaces_one (h.gap + 1) (k.gap + 1) rest other (sym h.cut ∙ k.cut) h.all k.all
 
 -- the word begins with no space
@@ -87,14 +87,14 @@ pub atom_other : (text word name rest after : List ℕ) (piece : Option Token) �
 atom_other text word name rest after piece g begins none h =
     none name (begins_same word after rest piece (Some (Atom name)) begins (atom_at text word name rest g h).0).2
 
-atom_one : (text m n rest other : List ℕ) → SplitsAtom text m rest → SplitsAtom text n other → (m ≡ n) × (rest ≡ other)
+pub atom_one : (text m n rest other : List ℕ) → SplitsAtom text m rest → SplitsAtom text n other → (m ≡ n) × (rest ≡ other)
 atom_one text m n rest other h k =
     let a = atom_at text h.word n other (atom_gap text m rest h) k in
     let same = begins_same h.word rest other (Some (Atom m)) (Some (Atom n)) h.begins a.0 in
     let named = same.2 in
     (cc, same.1)
 
-line_append : (front text : List ℕ) → line_after (front ++ text) ≡ line_after front + count_by (λ c. c == 10) text
+pub line_append : (front text : List ℕ) → line_after (front ++ text) ≡ line_after front + count_by (λ c. c == 10) text
 unfolding line_after
 line_append front text = omega (arith, sum_by-append (λ c. cond (c == 10) 1 0) front text)
 

@@ -1,4 +1,11 @@
+pub mod CommandLines
+pub mod Fields
 pub mod Integers
+pub mod Kinds
+pub mod Lines
+pub mod Listing
+pub mod Numbers
+pub mod Progress
 pub mod Script
 pub mod Steps
 pub mod Words

@@ -1,6 +1,6 @@
--- A script of one line: `start M F LIST`.
+-- The line of a start, `start M F LIST`; the first line of a text, and how long a script may be.
 
-use Rattle.std.specs.Prelude.{◌≡◌, ◌≢◌, ℕ, ◌+◌, ◌<◌, ◌≤◌, ◌⊎◌, ◌==◌, List, [], ◌++◌, length, map, take, replicate, codes, Some}
+use Rattle.std.specs.Prelude.{◌≡◌, ℕ, ◌+◌, ◌==◌, List, ◌++◌, map, take, replicate, codes, Some}
 use Rattle.std.specs.List.{before_first, after_first}
 use Rattle.edb_lang.specs.Terms.{IsWithin}
 use Rattle.edb_scan.specs.declared.lexeme.Placed.{Placed}
@@ -49,26 +49,6 @@ other_lines bytes = after_first (λ c. c == 10) bytes
 abbrev pub longest_script : ℕ
 longest_script = 1_000_000
 
--- a script: its one line is a start
-pub record IsScript (bytes : List ℕ) (command : StartCommand) : Type 0 where
-  pub short : length bytes ≤ longest_script
-  pub start : IsStart (first_line bytes) command
-  pub alone : other_lines bytes ≡ []
-
--- the first bad line: the first one where it is no start, and else the second one where there is one
-abbrev pub IsBadLine : List ℕ → ℕ → Type 0
-IsBadLine bytes n =
-    ((n ≡ 1) × ((command : StartCommand) → IsStart (first_line bytes) command → ⊥))
-    ⊎ ((n ≡ 2) × ((command : StartCommand) × IsStart (first_line bytes) command) × (other_lines bytes ≢ []))
-
 -- the line of the first byte past the limit
 abbrev pub line_past : List ℕ → ℕ
 line_past bytes = line_after (take longest_script bytes)
-
--- The line at which a text is refused: its first bad line; in a text that is too long the lesser of that
--- and the line of the first byte past the limit.
-abbrev pub IsRefusedAt : List ℕ → ℕ → Type 0
-IsRefusedAt bytes n =
-    ((length bytes ≤ longest_script) × IsBadLine bytes n)
-    ⊎ ((longest_script < length bytes) × ((IsBadLine bytes n × (n ≤ line_past bytes))
-    ⊎ ((n ≡ line_past bytes) × ((bad : ℕ) → IsBadLine bytes bad → line_past bytes ≤ bad))))

@@ -1,10 +1,14 @@
-//! The reader of a script: one line that names a function and a literal list of integers, its arguments.
+//! The reader of scripts: the lines of one console, with one start among them.
 #![tactic(auto)]
 
 #[cfg(test)]
 mod checks;
+mod commands;
+mod fields;
 mod list;
+mod listing;
 mod script;
 mod words;
 
-pub use script::{LONGEST_SCRIPT, ScriptFault, StartCommand, one_script, read_script};
+pub use listing::{one_listing, read_commands};
+pub use script::ScriptFault;

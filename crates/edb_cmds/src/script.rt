@@ -1,7 +1,7 @@
-//! A script of one line.
+//! The lines of a script, and the line of a start.
 
-ghost use Rattle.std.specs.Prelude.{◌≡◌, ◌≤◌, List, ℕ, length, IfOk, MatchOption, MatchResult};
-ghost use Rattle.edb_cmds.specs.Script.{IsStart, IsScript, IsRefusedAt, first_line, other_lines, longest_script};
+ghost use Rattle.std.specs.Prelude.{◌≡◌, ◌≤◌, length, IfOk, MatchOption};
+ghost use Rattle.edb_cmds.specs.Script.{IsStart, first_line, other_lines, longest_script};
 
 use crate::words::{read_arguments, read_atom, skip_start};
 use edb_lang::{Name, Term};
@@ -25,8 +25,8 @@ pub struct ScriptFault {
     pub line: u32,
 }
 
-// The first line, and the lines behind it.
-fn split_line(bytes: &[u8]) -> (&[u8], &[u8])
+/// The first line, and the lines behind it.
+pub fn split_line(bytes: &[u8]) -> (&[u8], &[u8])
     ensures line { result.0.now ≡ first_line bytes.now }
     ensures others { result.1.now ≡ other_lines bytes.now }
 {
@@ -38,8 +38,8 @@ fn split_line(bytes: &[u8]) -> (&[u8], &[u8])
     (bytes, &bytes[bytes.len()..])
 }
 
-// The command of a line, where it is a start.
-fn read_start(alloc: Global, line: &[u8]) -> Result<Option<StartCommand>, AllocError>
+/// The command of a line, where it is a start.
+pub fn read_start(alloc: Global, line: &[u8]) -> Result<Option<StartCommand>, AllocError>
     requires { length line.now ≤ longest_script }
     ensures { IfOk result (λ r. MatchOption r ((command : StartCommand) → IsStart line.now command → ⊥) (λ command. IsStart line.now command)) }
 {
@@ -57,36 +57,3 @@ fn read_start(alloc: Global, line: &[u8]) -> Result<Option<StartCommand>, AllocE
     };
     Ok(Some(StartCommand { home, name, args }))
 }
-
-fn discard(_command: StartCommand) {}
-
-/// The command of a script; of one that is refused, the first bad line: 1 where the first line is no
-/// start, or has 1,000,000 bytes with more behind them, and else 2 where there is a second line.
-/// Refused besides only for want of memory.
-pub fn read_script(
-    alloc: Global,
-    bytes: &[u8],
-) -> Result<Result<StartCommand, ScriptFault>, AllocError>
-    ensures { IfOk result (λ r. MatchResult r (λ command. IsScript bytes.now command) (λ fault. IsRefusedAt bytes.now fault.line)) }
-{
-    let (line, others) = split_line(bytes);
-    if bytes.len() > LONGEST_SCRIPT && line.len() >= LONGEST_SCRIPT {
-        return Ok(Err(ScriptFault { line: 1 }));
-    }
-    let Some(command) = read_start(alloc, line)? else {
-        return Ok(Err(ScriptFault { line: 1 }));
-    };
-    if !others.is_empty() {
-        discard(command);
-        return Ok(Err(ScriptFault { line: 2 }));
-    }
-    Ok(Ok(command))
-}
-
-/// The law that a text has one answer: no two commands, no two lines at which it is refused, and never
-/// both.
-pub fn one_script()
-    ensures one { (bytes : List ℕ) (c d : StartCommand) → IsScript bytes c → IsScript bytes d → c ≡ d }
-    ensures never_both { (bytes : List ℕ) (c : StartCommand) (n : ℕ) → IsScript bytes c → IsRefusedAt bytes n → ⊥ }
-    ensures one_line { (bytes : List ℕ) (n k : ℕ) → IsRefusedAt bytes n → IsRefusedAt bytes k → n ≡ k }
-{}

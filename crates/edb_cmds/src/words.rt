@@ -11,8 +11,8 @@ use edb_lang::{Name, Term};
 use edb_scan::{Token, first_piece};
 use std::alloc::{AllocError, Global};
 
-// What comes behind the spaces at the head of a text.
-fn skip_spaces(text: &[u8]) -> &[u8]
+/// What comes behind the spaces at the head of a text.
+pub fn skip_spaces(text: &[u8]) -> &[u8]
     ensures { SplitsSpaces text.now result.now }
 {
     for (count, byte) in text.iter().enumerate() {
@@ -31,8 +31,8 @@ fn skip_space(text: &[u8]) -> Option<&[u8]>
     if *first == b' ' { Some(rest) } else { None }
 }
 
-// What comes behind the gap at the head of a text.
-fn skip_gap(text: &[u8]) -> Option<&[u8]>
+/// What comes behind the gap at the head of a text.
+pub fn skip_gap(text: &[u8]) -> Option<&[u8]>
     ensures { MatchOption result ((rest : List ℕ) → SplitsGap text.now rest → ⊥) (λ rest. SplitsGap text.now rest.now) }
 {
     let rest = skip_space(text)?;

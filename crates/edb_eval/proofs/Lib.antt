@@ -7,3 +7,4 @@ pub mod GlanceLaws
 pub mod Nexts
 pub mod LevelLaws
 pub mod Stays
+pub mod InnermostLaws

@@ -5,3 +5,4 @@ pub mod Calls
 pub mod Glances
 pub mod Levels
 pub mod Stands
+pub mod BodyInfo

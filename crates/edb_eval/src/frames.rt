@@ -1,14 +1,18 @@
 //! The frames round what is evaluated next.
 
 ghost use Rattle.std.specs.Prelude.{◌≡◌, ◌<◌, ◌∷◌, [], List, length, MatchOption, MatchResult, slice_get};
+ghost use Rattle.std.specs.List.{list_any};
 ghost use Rattle.std.specs.Option.{option_copied};
 ghost use Rattle.edb_lang.specs.Syntax.{exps_of, none, more};
+ghost use Rattle.edb_lang.specs.TermText.{same_name};
 ghost use Rattle.edb_model.specs.Lookup.{version_beside};
 ghost use Rattle.edb_eval.specs.declared.frames.Frame.TheVariants as frame;
 ghost use Rattle.edb_eval.specs.Bodies.{outer_bodies, version_or_first};
-ghost use Rattle.edb_eval.specs.Tree.{pending_exps};
+ghost use Rattle.edb_eval.specs.BodyInfo.{body_info};
+ghost use Rattle.edb_eval.specs.Tree.{info_of, pending_exps};
 ghost use Rattle.edb_eval.specs.Places.{at_body, is_tail};
 
+use crate::body::Body;
 use crate::stack::Stack;
 use edb_lang::{Bindings, Expr, Name, Op, Pattern, Term};
 use edb_model::Rows;
@@ -77,6 +81,22 @@ pub struct Info {
     pub bindings: Bindings,
 }
 
+impl Info {
+    /// What a caller sees of it; takes no memory.
+    pub fn seen(&self) -> Body<'_>
+        ensures { body_info result ≡ info_of self.now }
+    {
+        Body {
+            module: &self.home,
+            version: self.version,
+            name: &self.name,
+            arity: self.arity,
+            level: self.level,
+            bindings: &self.bindings,
+        }
+    }
+}
+
 /// A frame: a node with a hole, or a Body, which then has the Body outside of it.
 #[derive(Drop)]
 pub enum Frame<'a> {
@@ -98,6 +118,16 @@ impl<'a> Frame<'a> {
                     None
                 }
             }
+        }
+    }
+
+    // Whether it is a Body of one of these modules.
+    fn is_body_of(&self, modules: &[Name]) -> bool
+        ensures { result ≡ list_any (λ b. list_any (same_name b.0) modules.now) (outer_bodies (self.now ∷ [])) }
+    {
+        match self {
+            Frame::Holder(_) => false,
+            Frame::Body(info) => is_among(&info.home, modules),
         }
     }
 }
@@ -231,4 +261,29 @@ impl<'a> Frames<'a> {
         }
         1
     }
+
+    /// Whether some Body among the frames is of one of these modules.
+    #[tactic(auto, using(crate::proofs::Depths::depths))]
+    pub fn is_inside(&self, modules: &[Name]) -> bool
+        ensures { result ≡ list_any (λ b. list_any (same_name b.0) modules.now) (outer_bodies self.now) }
+    {
+        for depth in 0..self.stack.len() {
+            match self.stack.get(depth) {
+                Some(frame) => {
+                    if frame.is_body_of(modules) {
+                        return true;
+                    }
+                }
+                None => return false,
+            }
+        }
+        false
+    }
+}
+
+/// Whether this is one of these modules.
+pub fn is_among(module: &Name, modules: &[Name]) -> bool
+    ensures { result ≡ list_any (same_name «module».now) modules.now }
+{
+    modules.iter().any(|other| module.same(other))
 }

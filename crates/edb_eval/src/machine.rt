@@ -1,16 +1,22 @@
 //! The machine that makes the moves of one process.
 
 ghost use Rattle.std.specs.Prelude.{◌≡◌, ◌<◌, ◌≤◌, ◌+◌, ◌^◌, ◌∷◌, [], true, false, IfOk, OnOk, OnErr, MatchOption};
+ghost use Rattle.std.specs.List.{list_any};
+ghost use Rattle.std.specs.Option.{option_map};
+ghost use Rattle.edb_lang.specs.TermText.{same_name};
 ghost use Rattle.edb_model.specs.declared.act.ActKind.TheVariants as act;
 ghost use Rattle.edb_lang.specs.Terms as term;
 ghost use Rattle.edb_model.specs.Running.{opening_call, remote_call};
 ghost use Rattle.edb_model.specs.Lookup.{first_versions};
 ghost use Rattle.edb_model.specs.Move.{next, redex, is_move, is_display, moved, answered, acts};
 ghost use Rattle.edb_model.specs.Acts.{exit_reason};
+ghost use Rattle.edb_model.specs.Innermost.{innermost};
+ghost use Rattle.edb_eval.specs.BodyInfo.{body_info};
 ghost use Rattle.edb_eval.specs.Stands.{state_tree, stands_for, settled_state};
 ghost use Rattle.edb_eval.specs.Glances.{kind_of, Displays};
 ghost use Rattle.edb_eval.specs.Levels.{highest};
 
+use crate::body::Body;
 use crate::calls::{Called, Entry, Site, call};
 use crate::focus::{Focus, Redex};
 use crate::frames::Frames;
@@ -150,6 +156,30 @@ impl<'a> Machine<'a> {
                 Class::Exit => reason.copy(alloc),
                 Class::Throw => throw_exit(alloc, reason),
             },
+        }
+    }
+
+    /// The innermost Body, where there is one; takes no memory.
+    pub fn innermost(&self) -> Option<Body<'_>>
+        ensures { option_map body_info result ≡ innermost (stands_for self.now) }
+    {
+        match &self.state {
+            State::Opening { .. } => None,
+            State::Running(running) => Some(running.innermost()),
+            State::Value(_) => None,
+            State::Raised { .. } => None,
+        }
+    }
+
+    /// Whether some Body round what is next is of one of these modules; takes no memory.
+    pub fn is_inside(&self, modules: &[Name]) -> bool
+        ensures { result ≡ list_any (λ b. list_any (same_name b.0) modules.now) (redex (stands_for self.now)).0.bodies }
+    {
+        match &self.state {
+            State::Opening { .. } => false,
+            State::Running(running) => running.is_inside(modules),
+            State::Value(_) => false,
+            State::Raised { .. } => false,
         }
     }
 

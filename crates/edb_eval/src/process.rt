@@ -1,14 +1,20 @@
 //! A process as contracts see it: the running expression that its machine stands for.
 
 ghost use Rattle.std.specs.Prelude.{◌≡◌, ◌<◌, ◌≤◌, ◌+◌, ◌^◌, true, IfOk, OnOk, OnErr};
+ghost use Rattle.std.specs.List.{list_any};
+ghost use Rattle.std.specs.Option.{option_map};
+ghost use Rattle.edb_lang.specs.TermText.{same_name};
 ghost use Rattle.edb_model.specs.declared.act.ActKind.TheVariants as act;
 ghost use Rattle.edb_model.specs.Running.{opening_call};
 ghost use Rattle.edb_model.specs.Lookup.{first_versions};
 ghost use Rattle.edb_model.specs.Move.{next, redex, is_move, moved, answered, acts};
 ghost use Rattle.edb_model.specs.Acts.{exit_reason};
+ghost use Rattle.edb_model.specs.Innermost.{innermost};
+ghost use Rattle.edb_eval.specs.BodyInfo.{body_info};
 ghost use Rattle.edb_eval.specs.Glances.{kind_of, Displays};
 ghost use Rattle.edb_eval.specs.Levels.{highest};
 
+use crate::body::Body;
 use crate::glance::Kind;
 use crate::machine::Machine;
 use edb_lang::{Name, Term};
@@ -90,5 +96,20 @@ impl<'a> Process<'a> {
         ensures { IfOk result (λ r. r ≡ exit_reason self.now) }
     {
         self.machine.reason(alloc)
+    }
+
+    /// The innermost Body, where there is one; takes no memory.
+    pub fn innermost(&self) -> Option<Body<'_>>
+        ensures { option_map body_info result ≡ innermost self.now }
+    {
+        self.machine.innermost()
+    }
+
+    /// Whether some Body round what is next is of one of these modules: it looks at the innermost Body first,
+    /// and ends at the first that is. Takes no memory.
+    pub fn is_inside(&self, modules: &[Name]) -> bool
+        ensures { result ≡ list_any (λ b. list_any (same_name b.0) modules.now) (redex self.now).0.bodies }
+    {
+        self.machine.is_inside(modules)
     }
 }

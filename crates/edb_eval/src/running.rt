@@ -1,14 +1,18 @@
 //! The machine while its process is in the middle of a call.
 
-ghost use Rattle.std.specs.Prelude.{◌≡◌, ℕ, ◌<◌, ◌+◌, ◌*◌, ◌^◌, [], ◌∷◌, false, true, length, None, IsSome, IfOk, OnOk, OnErr, MatchOption};
+ghost use Rattle.std.specs.Prelude.{◌≡◌, ℕ, ◌<◌, ◌+◌, ◌*◌, ◌^◌, [], ◌∷◌, false, true, length, None, Some, IsSome, IfOk, OnOk, OnErr, MatchOption};
+ghost use Rattle.std.specs.List.{list_any};
 ghost use Rattle.edb_lang.specs.Syntax.{nodes};
+ghost use Rattle.edb_lang.specs.TermText.{same_name};
 ghost use Rattle.edb_lang.specs.Terms as term;
 ghost use Rattle.edb_model.specs.declared.act.ActKind.TheVariants as act;
 ghost use Rattle.edb_model.specs.Running.{running, remote_call, value_of, value as valued};
 ghost use Rattle.edb_model.specs.Lookup.{first_versions, version_beside};
 ghost use Rattle.edb_model.specs.Move as move;
 ghost use Rattle.edb_model.specs.Move.{Place, turns, leaves, rewrite, go, outside, look, applied, next, acts};
+ghost use Rattle.edb_model.specs.Innermost.{innermost};
 ghost use Rattle.edb_eval.specs.Bodies.{outer_bodies, version_or_first};
+ghost use Rattle.edb_eval.specs.BodyInfo.{body_info};
 ghost use Rattle.edb_eval.specs.Tree.{operation_of, info_of, held, plug, focus_tree, redex_tree, tree, left, at_redex, work, holder_nodes};
 ghost use Rattle.edb_eval.specs.Places.{place_of, out_of};
 ghost use Rattle.edb_eval.specs.Glances.{kind_of, leftmost, begun, Shows, Displays};
@@ -16,9 +20,10 @@ ghost use Rattle.edb_eval.specs.Calls.{called_effect, applied_effect, entry_body
 ghost use Rattle.edb_eval.specs.declared.focus.Redex.TheVariants as redex;
 ghost use Rattle.edb_eval.specs.declared.focus.Focus.TheVariants as focus;
 
+use crate::body::Body;
 use crate::calls::{Called, Entry, Site, call, match_value};
 use crate::focus::{Focus, Redex};
-use crate::frames::{Frame, Frames, Holder, Info, Operation, Pending};
+use crate::frames::{Frame, Frames, Holder, Info, Operation, Pending, is_among};
 use crate::glance::{Cursor, Glance, Kind, Known, code_glance, operands_glance};
 use crate::reasons::{failure, mismatch};
 use edb_lang::{Class, Expr, ExprNode, Name, Node, Op, Pattern, Term};
@@ -477,6 +482,23 @@ impl<'a> Running<'a> {
             }
         }
         Outcome::Ends(value)
+    }
+}
+
+// What is seen of the Bodies round what is next.
+impl<'a> Running<'a> {
+    /// The innermost Body; takes no memory.
+    pub fn innermost(&self) -> Body<'_>
+        ensures { Some (body_info result) ≡ innermost (tree self.now) }
+    {
+        self.here.seen()
+    }
+
+    /// Whether some Body round what is next is of one of these modules; takes no memory.
+    pub fn is_inside(&self, modules: &[Name]) -> bool
+        ensures { result ≡ list_any (λ b. list_any (same_name b.0) modules.now) (move.redex (tree self.now)).0.bodies }
+    {
+        is_among(&self.here.home, modules) || self.frames.is_inside(modules)
     }
 }
 

@@ -1,3 +1,4 @@
 pub mod Weights
 pub mod Ranges
 pub mod Books
+pub mod Erasure

@@ -1,20 +1,26 @@
 -- Labels: the steps of a plain run, which has no debugger in it.
 
-use Rattle.std.specs.Prelude.{◌≡◌, ℕ, List, [], ◌∷◌, ◌++◌, if◌then◌else◌, nat_lt, length, Option, None, Some}
+use Rattle.std.specs.Prelude.{◌≡◌, ℕ, List, [], ◌∷◌, ◌++◌, if◌then◌else◌, nat_lt, length, map, is_some, Option, None, Some}
 use Rattle.std.specs.Option.{option_and_then}
 use Rattle.edb_lang.specs.Terms.{Datum, elements}
 use Rattle.edb_lang.specs.Syntax.{ModuleTree}
+use Rattle.edb_lang.specs.TermText.{same_name}
 use Rattle.edb_model.specs.Running.{Run, opening_call}
+use Rattle.edb_model.specs.Lookup.{version_in}
 use Rattle.edb_model.specs.Move.{Next, next, is_move, moved}
 use Rattle.edb_model.specs.Plain.{Process, Plain, opening, newborn, process_at, with_process}
 use Rattle.edb_model.specs.Acts.{acted}
 
--- process p makes a pure move; process p makes the act that is next for it; a process starts with the
--- call of a module's function with the elements of a list
+-- Process p makes a pure move; process p makes the act that is next for it; the first signal in flight is
+-- delivered; the clock goes on to a time; a process starts with the call of a module's function with the
+-- elements of a list; a version of a module becomes the current one.
 pub data Label : Type 0 where
   move : ℕ → Label
   act : ℕ → Label
+  signal : Label
+  advance : ℕ → Label
   start : List ℕ → List ℕ → Datum → Label
+  load : List ℕ → ℕ → Label
 
 -- at most so many processes are ever made
 abbrev pub most_processes : ℕ
@@ -23,11 +29,19 @@ most_processes = 65536
 abbrev pub moved_in : List ModuleTree → Plain → ℕ → Run → Plain
 moved_in code s p t = with_process s p (record (process_at s p) { running = Some (moved code s.versions t) })
 
--- the state after a label; none where the label isn't enabled
+-- the number beside a module's name, changed
+abbrev pub with_version : List ℕ → ℕ → List (List ℕ × ℕ) → List (List ℕ × ℕ)
+with_version m k versions = map (λ p. if same_name p.0 m then (p.0, k) else p) versions
+
+-- The state after a label; none where the label isn't enabled. No act puts a signal in flight yet, and none sets a
+-- deadline: these come with the acts that do.
 abbrev pub step : List ModuleTree → Plain → Label → Option Plain
 step code s (move p) =
     option_and_then (λ (t : Run). if is_move (next t) then Some (moved_in code s p t) else None) (process_at s p).running
 step code s (act p) = option_and_then (λ (t : Run). acted s p t (next t)) (process_at s p).running
+step code s signal = None
+step code s (advance t) = None
+step code s (load m k) = if is_some (version_in code m k) then Some (record s { versions = with_version m k s.versions }) else None
 step code s (start m f args) =
     if nat_lt (length s.processes) most_processes
     then Some (record s { processes = s.processes ++ newborn (opening_call m f (elements args)) ∷ [] })

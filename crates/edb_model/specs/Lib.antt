@@ -1,4 +1,5 @@
 pub mod Running
+pub mod Innermost
 pub mod Lookup
 pub mod Move
 pub mod Plain

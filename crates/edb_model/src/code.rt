@@ -85,6 +85,15 @@ impl Code {
         Ok(version)
     }
 
+    /// Whether some module has this name.
+    pub fn holds(&self, name: &Name) -> bool
+        ensures { result ≡ list_any (λ m. same_name m.name name.now) self.now }
+    {
+        self.modules
+            .iter()
+            .any(|checked| checked.module.name.same(name))
+    }
+
     /// How many modules have this name.
     fn versions(&self, name: &Name) -> u32
         requires { length self.now < 4294967295 }

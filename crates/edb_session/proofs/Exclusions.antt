@@ -8,30 +8,33 @@ use Rattle.edb_io.specs.declared.reading.FileRead.{FileRead}
 use Rattle.edb_io.specs.Reads.{file_read}
 use Rattle.edb_model.specs.declared.tables.Tables.{Tables}
 use Rattle.edb_small.specs.SmallModule.{IsModule}
-use Rattle.edb_cmds.specs.declared.script.StartCommand.{StartCommand}
-use Rattle.edb_cmds.specs.Script.{IsScript, IsRefusedAt}
+use Rattle.edb_event.specs.declared.call.Command.{Command}
+use Rattle.edb_event.specs.declared.entry.Entry.{Entry}
+use Rattle.edb_cmds.specs.Listing.{IsScriptOf, IsScriptFault}
+use Rattle.edb_rules.specs.Plans.{Plan}
+use Rattle.edb_rules.specs.Facts.{Facts}
+use Rattle.edb_rules.specs.Notes.{facts}
+use Rattle.edb_rules.specs.Legal.{IsDone, IsLimit}
 use Rattle.edb_session.specs.declared.ending.End.{End}
 use Rattle.edb_session.specs.declared.ending.End.TheVariants.{Done, Words, FileFault, ModuleRefused, ScriptRefused, Limit, WriteFault, NoMemory}
 use Rattle.edb_session.specs.declared.ending.ModuleFault.TheVariants.{NotYet}
-use Rattle.edb_session.specs.declared.entry.Entry.{Entry}
-use Rattle.edb_session.specs.Facts.{Plan, Facts, facts}
-use Rattle.edb_session.specs.Runs.{IsDone, IsLimit, plan_with}
+use Rattle.edb_session.specs.Runs.{plan_with}
 use Rattle.edb_session.specs.Reading.{Names, most_bytes, AreRead, FailsAt, RefusesModule, RefusesScript, IsAccepted}
 use Rattle.edb_session.specs.Ends.{HasCause, Leaves, IsWritten, KeepsFlag}
 use Rattle.edb_session.specs.Exact.{WordsExactly, ModuleExactly, ScriptExactly, DoneExactly, LimitExactly, IsComplete}
 
--- a text is one module's at most; a script is one command, or is refused at one line, and never both
+-- a text is one module's at most; a script gives one list of commands, or is refused at one line, and never both
 abbrev OneModule : Type 0
 OneModule = (bytes : List ℕ) (m n : ModuleTree) → IsModule bytes m → IsModule bytes n → m ≡ n
 
-abbrev OneCommand : Type 0
-OneCommand = (bytes : List ℕ) (c d : StartCommand) → IsScript bytes c → IsScript bytes d → c ≡ d
+abbrev OneListing : Type 0
+OneListing = (bytes : List ℕ) (c d : List Command) → IsScriptOf bytes c → IsScriptOf bytes d → c ≡ d
 
 abbrev NeverBoth : Type 0
-NeverBoth = (bytes : List ℕ) (c : StartCommand) (n : ℕ) → IsScript bytes c → IsRefusedAt bytes n → ⊥
+NeverBoth = (bytes : List ℕ) (c : List Command) (n : ℕ) → IsScriptOf bytes c → IsScriptFault bytes n → ⊥
 
 abbrev OneLine : Type 0
-OneLine = (bytes : List ℕ) (n k : ℕ) → IsRefusedAt bytes n → IsRefusedAt bytes k → n ≡ k
+OneLine = (bytes : List ℕ) (n k : ℕ) → IsScriptFault bytes n → IsScriptFault bytes k → n ≡ k
 
 -- names that are there
 no_names : (names : Option Names) (P : Names → Type 0) → names ≡ None → IsSomeAnd names P → ⊥
@@ -86,23 +89,23 @@ no_module_both : (n : Names) (old new : List FileRead) (s f : List ℕ) (tree : 
 no_module_both n old new s f tree a is r =
     r.no_module tree (subst (λ (bytes : List ℕ). IsModule bytes tree) (files_same n old new s f r.script r.file a r.read) is)
 
-no_script_both : NeverBoth → (n : Names) (old new : List FileRead) (s f : List ℕ) (c : StartCommand) (line : ℕ) → AreRead n old new s f → IsScript s c
+no_script_both : NeverBoth → (n : Names) (old new : List FileRead) (s f : List ℕ) (c : List Command) (line : ℕ) → AreRead n old new s f → IsScriptOf s c
     → RefusesScript n old new line → ⊥
 no_script_both never n old new s f c line a is r =
-    never r.script c line (subst (λ (bytes : List ℕ). IsScript bytes c) (scripts_same n old new s f r.script r.file a r.read) is) r.refused
+    never r.script c line (subst (λ (bytes : List ℕ). IsScriptOf bytes c) (scripts_same n old new s f r.script r.file a r.read) is) r.refused
 
 -- what was accepted is one plan
-one_plan : OneModule → OneCommand → (n : Names) (old new : List FileRead) (p q : Plan) → IsAccepted n old new p → IsAccepted n old new q → p ≡ q
-one_plan module_ command n old new p q a b =
+one_plan : OneModule → OneListing → (n : Names) (old new : List FileRead) (p q : Plan) → IsAccepted n old new p → IsAccepted n old new q → p ≡ q
+one_plan module_ listing n old new p q a b =
     let tree : a.tree ≡ b.tree
     = module_ b.file a.tree b.tree (subst (λ (bytes : List ℕ). IsModule bytes a.tree) (files_same n old new a.script a.file b.script b.file a.read b.read) a.is_module) b.is_module in
-    let same : p.command ≡ q.command
-    = command b.script p.command q.command (subst (λ (bytes : List ℕ). IsScript bytes p.command) (scripts_same n old new a.script a.file b.script b.file a.read b.read) a.is_script) b.is_script in
-    a.is_plan ∙ (ap₂ (λ (t : ModuleTree) (c : StartCommand). plan_with (t ∷ []) c) tree same ∙ sym b.is_plan)
+    let same : p.commands ≡ q.commands
+    = listing b.script p.commands q.commands (subst (λ (bytes : List ℕ). IsScriptOf bytes p.commands) (scripts_same n old new a.script a.file b.script b.file a.read b.read) a.is_script) b.is_script in
+    a.is_plan ∙ (ap₂ (λ (t : ModuleTree) (c : List Command). plan_with (t ∷ []) c) tree same ∙ sym b.is_plan)
 
 -- below the greatest weight, and not below it
 not_both : (p : Plan) (f : Facts) → IsDone p f → IsLimit p f → ⊥
-not_both p f done limit = omega (arith, done.light, limit)
+not_both p f done limit = omega (arith, done.call.light, limit.full)
 
 module _ (names : Option Names) (old new : List FileRead) (before now sink_before sink_now : ℕ) (journal : List Entry) (left : Tables) (had has : Option (List ℕ)) (was is : Bool) where
   abbrev Caused : End → Type 0
@@ -144,7 +147,7 @@ module _ (names : Option Names) (old new : List FileRead) (before now sink_befor
       → RefusesScript n old new line → ⊥
   ran_no_script never n plan line some accepted r =
       let a = the_names names (λ m. IsAccepted m old new plan) n some accepted in
-      no_script_both never n old new a.script a.file plan.command line a.read a.is_script r
+      no_script_both never n old new a.script a.file plan.commands line a.read a.is_script r
 
   pub script_exact : NeverBoth → OneLine → (e : End) → Caused e → Left e → ScriptExactly names old new e
   script_exact never one Done cause run n line some r = absurd (ran_no_script never n run.plan line some run.accepted r)
@@ -156,46 +159,46 @@ module _ (names : Option Names) (old new : List FileRead) (before now sink_befor
   script_exact never one (ScriptRefused bad) cause run n line some r =
       let s = the_names names (λ m. RefusesScript m old new bad) n some cause in
       inl (ap (λ (at : ℕ). ScriptRefused at)
-      (one r.script bad line (subst (λ (bytes : List ℕ). IsRefusedAt bytes bad) (scripts_same n old new s.script s.file r.script r.file s.read r.read) s.refused) r.refused))
+      (one r.script bad line (subst (λ (bytes : List ℕ). IsScriptFault bytes bad) (scripts_same n old new s.script s.file r.script r.file s.read r.read) s.refused) r.refused))
   script_exact never one Limit cause run n line some r = absurd (ran_no_script never n run.plan line some run.accepted r)
   script_exact never one WriteFault cause run n line some r = absurd (ran_no_script never n run.plan line some run.accepted r)
   script_exact never one NoMemory cause run n line some r = inr refl
 
   -- the run that is left is that of the plan that was accepted
-  ran_here : OneModule → OneCommand → (n : Names) (p q : Plan) → names ≡ Some n → IsSomeAnd names (λ m. IsAccepted m old new p) → IsAccepted n old new q
+  ran_here : OneModule → OneListing → (n : Names) (p q : Plan) → names ≡ Some n → IsSomeAnd names (λ m. IsAccepted m old new p) → IsAccepted n old new q
       → p ≡ q
-  ran_here module_ command n p q some accepted a =
-      one_plan module_ command n old new p q (the_names names (λ m. IsAccepted m old new p) n some accepted) a
+  ran_here module_ listing n p q some accepted a =
+      one_plan module_ listing n old new p q (the_names names (λ m. IsAccepted m old new p) n some accepted) a
 
-  pub done_exact : OneModule → OneCommand → NeverBoth → (e : End) → Caused e → Left e → KeepsFlag was is e → DoneExactly names old new journal was is e
-  done_exact module_ command never Done cause run flag n q some a clear still ended = inl refl
-  done_exact module_ command never Words cause run flag n q some a clear still ended = absurd (not_none names n some cause.0)
-  done_exact module_ command never (FileFault k) cause run flag n q some a clear still ended =
+  pub done_exact : OneModule → OneListing → NeverBoth → (e : End) → Caused e → Left e → KeepsFlag was is e → DoneExactly names old new journal was is e
+  done_exact module_ listing never Done cause run flag n q some a clear still ended = inl refl
+  done_exact module_ listing never Words cause run flag n q some a clear still ended = absurd (not_none names n some cause.0)
+  done_exact module_ listing never (FileFault k) cause run flag n q some a clear still ended =
       absurd (read_whole n old new a.script a.file k a.read (the_names names (λ m. FailsAt m old new k) n some cause.1))
-  done_exact module_ command never (ModuleRefused k NotYet) cause run flag n q some a clear still ended =
+  done_exact module_ listing never (ModuleRefused k NotYet) cause run flag n q some a clear still ended =
       absurd (no_module_both n old new a.script a.file a.tree a.read a.is_module (the_names names (λ m. RefusesModule m old new) n some cause.1))
-  done_exact module_ command never (ScriptRefused line) cause run flag n q some a clear still ended =
-      absurd (no_script_both never n old new a.script a.file q.command line a.read a.is_script (the_names names (λ m. RefusesScript m old new line) n some cause))
-  done_exact module_ command never Limit cause run flag n q some a clear still ended =
+  done_exact module_ listing never (ScriptRefused line) cause run flag n q some a clear still ended =
+      absurd (no_script_both never n old new a.script a.file q.commands line a.read a.is_script (the_names names (λ m. RefusesScript m old new line) n some cause))
+  done_exact module_ listing never Limit cause run flag n q some a clear still ended =
       absurd (not_both q (facts q journal) ended
-      (subst (λ (p : Plan). IsLimit p (facts p journal)) (ran_here module_ command n run.plan q some run.accepted a) run.over))
-  done_exact module_ command never WriteFault cause run flag n q some a clear still ended = absurd (cc)
-  done_exact module_ command never NoMemory cause run flag n q some a clear still ended = inr refl
+      (subst (λ (p : Plan). IsLimit p (facts p journal)) (ran_here module_ listing n run.plan q some run.accepted a) run.over))
+  done_exact module_ listing never WriteFault cause run flag n q some a clear still ended = absurd (cc)
+  done_exact module_ listing never NoMemory cause run flag n q some a clear still ended = inr refl
 
-  pub limit_exact : OneModule → OneCommand → NeverBoth → (e : End) → Caused e → Left e → KeepsFlag was is e → LimitExactly names old new journal was is e
-  limit_exact module_ command never Done cause run flag n q some a clear still ended =
+  pub limit_exact : OneModule → OneListing → NeverBoth → (e : End) → Caused e → Left e → KeepsFlag was is e → LimitExactly names old new journal was is e
+  limit_exact module_ listing never Done cause run flag n q some a clear still ended =
       absurd (not_both q (facts q journal)
-      (subst (λ (p : Plan). IsDone p (facts p journal)) (ran_here module_ command n run.plan q some run.accepted a) run.over) ended)
-  limit_exact module_ command never Words cause run flag n q some a clear still ended = absurd (not_none names n some cause.0)
-  limit_exact module_ command never (FileFault k) cause run flag n q some a clear still ended =
+      (subst (λ (p : Plan). IsDone p (facts p journal)) (ran_here module_ listing n run.plan q some run.accepted a) run.over) ended)
+  limit_exact module_ listing never Words cause run flag n q some a clear still ended = absurd (not_none names n some cause.0)
+  limit_exact module_ listing never (FileFault k) cause run flag n q some a clear still ended =
       absurd (read_whole n old new a.script a.file k a.read (the_names names (λ m. FailsAt m old new k) n some cause.1))
-  limit_exact module_ command never (ModuleRefused k NotYet) cause run flag n q some a clear still ended =
+  limit_exact module_ listing never (ModuleRefused k NotYet) cause run flag n q some a clear still ended =
       absurd (no_module_both n old new a.script a.file a.tree a.read a.is_module (the_names names (λ m. RefusesModule m old new) n some cause.1))
-  limit_exact module_ command never (ScriptRefused line) cause run flag n q some a clear still ended =
-      absurd (no_script_both never n old new a.script a.file q.command line a.read a.is_script (the_names names (λ m. RefusesScript m old new line) n some cause))
-  limit_exact module_ command never Limit cause run flag n q some a clear still ended = inl refl
-  limit_exact module_ command never WriteFault cause run flag n q some a clear still ended = absurd (cc)
-  limit_exact module_ command never NoMemory cause run flag n q some a clear still ended = inr refl
+  limit_exact module_ listing never (ScriptRefused line) cause run flag n q some a clear still ended =
+      absurd (no_script_both never n old new a.script a.file q.commands line a.read a.is_script (the_names names (λ m. RefusesScript m old new line) n some cause))
+  limit_exact module_ listing never Limit cause run flag n q some a clear still ended = inl refl
+  limit_exact module_ listing never WriteFault cause run flag n q some a clear still ended = absurd (cc)
+  limit_exact module_ listing never NoMemory cause run flag n q some a clear still ended = inr refl
 
   pub complete : NeverBoth → (e : End) → Caused e → Left e → IsWritten names journal had has sink_before sink_now was is e
       → IsComplete names old new before now sink_before sink_now e

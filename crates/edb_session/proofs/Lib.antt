@@ -1,10 +1,8 @@
-pub mod Journals
-pub mod Slices
-pub mod Turns
-pub mod Keeping
 pub mod Lines
 pub mod Found
 pub mod Refusals
 pub mod Exclusions
-pub mod OneJournal
 pub mod Rows
+pub mod Served
+pub mod Planned
+pub mod Leaving

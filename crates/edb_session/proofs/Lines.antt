@@ -4,8 +4,8 @@ use Rattle.std.proofs.Common.{◌≡◌, ℕ, ◌+◌, ◌<◌, List, [], ◌∷
 use Rattle.std.proofs.lemmas.List.{take_more}
 use Rattle.std.proofs.lemmas.Grind.{flat_map-append}
 use Rattle.std.proofs.lemmas.List.{take-append-drop}
-use Rattle.edb_session.specs.declared.entry.Entry.{Entry}
-use Rattle.edb_session.specs.Rendering.{entry_text, transcript}
+use Rattle.edb_event.specs.declared.entry.Entry.{Entry}
+use Rattle.edb_report.specs.Rendering.{entry_text, transcript}
 
 -- the transcript of one entry more
 pub transcript_more : (es : List Entry) (i : ℕ) (e : Entry) → i < length es → e ≡ get_or es i e

@@ -10,12 +10,15 @@ use Rattle.edb_model.specs.Plain.{no_tables}
 use Rattle.edb_session.specs.declared.ending.End.{End}
 use Rattle.edb_session.specs.declared.ending.End.TheVariants.{Done, Words, FileFault, ModuleRefused, ScriptRefused, Limit, WriteFault, NoMemory}
 use Rattle.edb_session.specs.declared.ending.ModuleFault.TheVariants.{NotYet}
-use Rattle.edb_session.specs.declared.entry.Entry.{Entry}
+use Rattle.edb_event.specs.declared.entry.Entry.{Entry}
 use Rattle.edb_session.specs.declared.top.LineWrite.{LineWrite}
 use Rattle.edb_session.specs.declared.top.LineWrite.TheVariants as line_write
-use Rattle.edb_session.specs.Facts.{Plan, Facts, facts}
-use Rattle.edb_session.specs.Runs.{IsRun, IsDone, IsLimit}
-use Rattle.edb_session.specs.Rendering.{transcript}
+use Rattle.edb_rules.specs.Plans.{Plan}
+use Rattle.edb_rules.specs.Facts.{Facts}
+use Rattle.edb_rules.specs.Notes.{facts}
+use Rattle.edb_rules.specs.Legal.{IsDone, IsLimit}
+use Rattle.edb_report.specs.Rendering.{transcript}
+use Rattle.edb_session.specs.Runs.{IsRun}
 use Rattle.edb_session.specs.Reading.{Names, FailsAt, RefusesModule, RefusesScript, IsAccepted}
 
 -- The cause of an end, by the names in the words, the lists of reads and the counts of the files' faults.

@@ -5,14 +5,16 @@ use Rattle.edb_lang.specs.Syntax.{ModuleTree}
 use Rattle.edb_io.specs.declared.reading.FileRead.{FileRead}
 use Rattle.edb_io.specs.Faults.{Rose}
 use Rattle.edb_small.specs.SmallModule.{IsModule}
-use Rattle.edb_cmds.specs.declared.script.StartCommand.{StartCommand}
-use Rattle.edb_cmds.specs.Script.{IsScript}
+use Rattle.edb_event.specs.declared.call.Command.{Command}
+use Rattle.edb_event.specs.declared.entry.Entry.{Entry}
+use Rattle.edb_cmds.specs.Listing.{IsScriptOf}
+use Rattle.edb_rules.specs.Plans.{Plan}
+use Rattle.edb_rules.specs.Facts.{Facts}
+use Rattle.edb_rules.specs.Notes.{facts}
+use Rattle.edb_rules.specs.Legal.{IsDone, IsLimit}
 use Rattle.edb_session.specs.declared.ending.End.{End}
 use Rattle.edb_session.specs.declared.ending.End.TheVariants.{Done, Words, ModuleRefused, ScriptRefused, Limit, NoMemory}
 use Rattle.edb_session.specs.declared.ending.ModuleFault.TheVariants.{NotYet}
-use Rattle.edb_session.specs.declared.entry.Entry.{Entry}
-use Rattle.edb_session.specs.Facts.{Plan, Facts, facts}
-use Rattle.edb_session.specs.Runs.{IsDone, IsLimit}
 use Rattle.edb_session.specs.Reading.{Names, AreRead, RefusesModule, RefusesScript, IsAccepted}
 
 -- the end is this one, or memory was refused
@@ -49,7 +51,7 @@ LimitExactly = EndsExactly IsLimit Limit
 abbrev pub IsAllAccepted : Names → List FileRead → List FileRead → Type 0
 IsAllAccepted n old new =
     (script file : List ℕ) → AreRead n old new script file
-    → ((tree : ModuleTree) × IsModule file tree) × ((command : StartCommand) × IsScript script command)
+    → ((tree : ModuleTree) × IsModule file tree) × ((commands : List Command) × IsScriptOf script commands)
 
 -- Right words, no fault of the files and of the sink, and an accepted module and script lead to Done or
 -- Limit, or memory was refused.

@@ -1,12 +1,6 @@
-pub mod Entries
-pub mod Facts
-pub mod Legal
-pub mod Rendering
+pub mod Headline
 pub mod Runs
-pub mod Worlds
-pub mod Outcomes
 pub mod Reading
 pub mod Ends
 pub mod Named
 pub mod Exact
-pub mod Begins

@@ -5,8 +5,8 @@ use Rattle.edb_lang.specs.Syntax.{ModuleTree}
 use Rattle.edb_io.specs.declared.reading.FileRead.{FileRead}
 use Rattle.edb_io.specs.Reads.{file_read}
 use Rattle.edb_small.specs.SmallModule.{IsModule}
-use Rattle.edb_cmds.specs.Script.{IsScript, IsRefusedAt}
-use Rattle.edb_session.specs.Facts.{Plan}
+use Rattle.edb_cmds.specs.Listing.{IsScriptOf, IsScriptFault}
+use Rattle.edb_rules.specs.Plans.{Plan}
 use Rattle.edb_session.specs.Runs.{plan_with}
 
 -- a word of two or more characters that begins with `-` is no name
@@ -52,7 +52,7 @@ pub record RefusesScript (n : Names) (old new : List FileRead) (line : ℕ) : Ty
   pub read : AreRead n old new script file
   pub tree : ModuleTree
   pub is_module : IsModule file tree
-  pub refused : IsRefusedAt script line
+  pub refused : IsScriptFault script line
 
 -- what was read is a module and a script, and this is the plan of both
 pub record IsAccepted (n : Names) (old new : List FileRead) (plan : Plan) : Type 0 where
@@ -61,8 +61,8 @@ pub record IsAccepted (n : Names) (old new : List FileRead) (plan : Plan) : Type
   pub read : AreRead n old new script file
   pub tree : ModuleTree
   pub is_module : IsModule file tree
-  pub is_script : IsScript script plan.command
-  pub is_plan : plan ≡ plan_with (tree ∷ []) plan.command
+  pub is_script : IsScriptOf script plan.commands
+  pub is_plan : plan ≡ plan_with (tree ∷ []) plan.commands
 
 -- the list of reads grew by the script, and then by the FILE, up to the first that failed or to want of memory
 abbrev pub ReadsUp : Option Names → List FileRead → List FileRead → Type 0

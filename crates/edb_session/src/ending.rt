@@ -1,6 +1,6 @@
 //! How a session ends.
 
-use crate::Journal;
+use edb_event::Journal;
 use edb_model::Tables;
 
 /// Why a FILE was refused.
@@ -13,7 +13,8 @@ pub enum ModuleFault {
 /// How a session ended. Files are counted from the script, which is 0.
 #[derive(Clone, Copy, PartialEq, Eq, Debug)]
 pub enum End {
-    /// All was done below the greatest weight, and all was written.
+    /// All commands were answered and no process could go on, below the greatest weight, and all was
+    /// written.
     Done,
     /// The words aren't a script's name and a FILE's.
     Words,

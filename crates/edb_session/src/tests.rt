@@ -1,5 +1,6 @@
 //! Sessions over memory, with what they write and leave.
-use crate::{Ending, Entry, session};
+use crate::{Ending, session};
+use edb_event::Entry;
 use edb_io::{Files, MemFiles, MemSink, Sink};
 use std::alloc::{AllocError, Global};
 use std::test::Fail;
@@ -111,9 +112,49 @@ fn runs_and_refuses(rt: HostRuntime) -> Result<(), Fail> {
             "f.erl: not yet\n",
         ),
         ("stop", THIN, 5, "s: line 1\n"),
-        ("start m go []\n\n", THIN, 5, "s: line 2\n"),
+        ("start m go []\nstart m go []", THIN, 5, "s: line 2\n"),
+        ("% nothing\n\nii m\n", THIN, 5, "s: line 4\n"),
     ] {
         assert!(rt; writes(rt.alloc(), script, file, status, text)?);
+    }
+    Ok(())
+}
+
+#[test]
+fn debugs(rt: HostRuntime) -> Result<(), Fail> {
+    for (script, file, text) in [
+        // A breakpoint, the variables there, and on to the end; the line of the breakpoint isn't begun yet.
+        (
+            "ii shop\nib shop 7\nstart shop main []\nawait $1 break\nia $1\nbindings $1\ncontinue $1\n",
+            SHOP,
+            "-- 1 ii shop: ok\n-- 1 ib shop 7: ok\n-- 1 start <1> shop:main/0\n-- <1> stop shop:7 level 2\n-- 1 await <1> break: <1> break\n-- 1 ia <1>: ok\n-- 1 bindings <1>: 2 rows\nA = 2\nB = 3\n-- 1 continue <1>: ok\n5\n-- <1> exit normal\n",
+        ),
+        // No module of that name, no such process, one that isn't interpreted.
+        (
+            "ii nope\ncontinue 9\nstart shop main []\ncontinue 1",
+            SHOP,
+            "-- 1 ii nope: no_module\n-- 1 continue <9>: no_process\n-- 1 start <1> shop:main/0\n-- 1 continue <1>: not_interpreted\n5\n-- <1> exit normal\n",
+        ),
+        // A place has one breakpoint; without `ii` it stops nobody.
+        (
+            "ib shop 7\nib shop 7\nstart shop main []",
+            SHOP,
+            "-- 1 ib shop 7: ok\n-- 1 ib shop 7: break_exists\n-- 1 start <1> shop:main/0\n5\n-- <1> exit normal\n",
+        ),
+        // A process that stays stopped doesn't end.
+        (
+            "ii shop\nib shop 7\nstart shop main []\nawait $1 exit",
+            SHOP,
+            "-- 1 ii shop: ok\n-- 1 ib shop 7: ok\n-- 1 start <1> shop:main/0\n-- <1> stop shop:7 level 2\n-- 1 await <1> exit: quiet\n",
+        ),
+        // Before the start `$1` is no process yet.
+        (
+            "await $1 break\nstart m go []",
+            THIN,
+            "-- 1 await <0> break: quiet\n-- 1 start <1> m:go/0\n5\n-- <1> exit normal\n",
+        ),
+    ] {
+        assert!(rt; writes(rt.alloc(), script, file, 0, text)?);
     }
     Ok(())
 }
@@ -247,14 +288,14 @@ impl Count {
 fn count_of(alloc: Global, script: &str, file: &str) -> Result<Count, AllocError> {
     let (ending, _sink) = run(alloc, script.as_bytes(), file.as_bytes(), 0, 0)?;
     let mut count = Count {
-        entries: ending.journal.len(),
+        entries: ending.journal.entries().len(),
         leases: 0,
         last_budget: 0,
         first_moves: 0,
         moves: 0,
         weight: 0,
     };
-    for entry in ending.journal.as_slice() {
+    for entry in ending.journal.entries() {
         count = count.and(entry);
     }
     Ok(count)

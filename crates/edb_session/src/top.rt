@@ -1,29 +1,37 @@
 //! The session.
 
-ghost use Rattle.std.specs.Prelude.{◌≡◌, ◌≤◌, ◌++◌, ◌⊎◌, List, ℕ, map, string_bytes, [], ◌∷◌, true, false, IfOk, IfErr, OnOk, MatchOption, IsSomeAnd, codes};
-ghost use Rattle.std.specs.Fmt.{decimal};
+ghost use Rattle.std.specs.Prelude.{◌≡◌, ◌⊎◌, map, string_bytes, [], ◌∷◌, IfOk, IfErr, MatchOption, IsSomeAnd};
 ghost use Rattle.std.specs.Option.{option_map};
 ghost use Rattle.edb_session.specs.Reading.{is_option, names_in, IsAccepted, ReadsUp};
 ghost use Rattle.edb_lang.specs.Syntax.{ModuleTree};
 ghost use Rattle.edb_small.specs.SmallModule.{IsModule};
-ghost use Rattle.edb_session.specs.Runs.{plan_with};
+ghost use Rattle.edb_session.specs.Runs.{plan_with, IsRun};
 ghost use Rattle.edb_session.specs.Ends.{HasCause, Leaves, Performed, IsTranscript, IsEmpty, IsWritten, KeepsFlag, IsRefusal, TriesLine, name_at, refusal_line, status_of};
 ghost use Rattle.edb_session.specs.Exact.{WordsExactly, ModuleExactly, ScriptExactly, DoneExactly, LimitExactly, IsComplete};
 ghost use Rattle.edb_model.specs.Plain.{no_tables};
 ghost use Rattle.edb_session.specs.Named.{names_of};
+ghost use Rattle.edb_world.specs.Plans.{IsPlan};
+ghost use Rattle.edb_world.specs.Outcomes.{IsOverBy};
 
 use crate::render::write_transcript;
-use crate::world::{Outcome, run_world};
-use crate::{End, Ending, Journal, ModuleFault};
-use edb_cmds::{StartCommand, one_script, read_script};
+use crate::{End, Ending, ModuleFault};
+use edb_cmds::{one_listing, read_commands};
+use edb_event::{Command, Journal};
 use edb_io::{Files, ReadFault, Sink, SinkFault};
 use edb_lang::{Bytes, Module};
 use edb_model::{Checked, Code, Rows, Tables};
-use edb_small::{one_module, read_module};
+use edb_small::{modules_are_bounded, one_module, read_module};
+use edb_world::{Outcome, run_world};
 use std::alloc::{AllocError, Global};
 
 /// The most bytes that are read of a file: one more than it may have.
 const MOST_BYTES: u32 = 1_000_001;
+
+/// How many pure moves a slice has at most.
+const SLICE: u32 = 100;
+
+/// The weight at which a journal is over.
+const MOST_WEIGHT: u32 = 100_000;
 
 /// The names that the words give.
 #[derive(Clone, Copy)]
@@ -36,7 +44,7 @@ pub(crate) struct Named<'a> {
 #[derive(Drop)]
 struct Accepted {
     code: Code,
-    command: StartCommand,
+    commands: Vec<Command>,
 }
 
 /// Whether a word is an option's.
@@ -76,11 +84,13 @@ fn prepare<F: Files>(
     names: Option<Named<'_>>,
     files: &mut F,
 ) -> Result<Accepted, End>
-    ensures ok { IfOk result (λ a. IsSomeAnd (option_map names_of names.entry) (λ n. IsAccepted n (F.reads files.old) (F.reads files.new) (plan_with a.code a.command))) }
+    ensures ok { IfOk result (λ a. IsSomeAnd (option_map names_of names.entry) (λ n. IsAccepted n (F.reads files.old) (F.reads files.new) (plan_with a.code a.commands.items))) }
+    ensures plan { IfOk result (λ a. IsPlan (plan_with a.code a.commands.items)) }
     ensures err { IfErr result (λ end. HasCause (option_map names_of names.entry) (F.reads files.old) (F.reads files.new) (F.faults files.old) (F.faults files.new) end) }
     ensures refusal { IfErr result IsRefusal }
     ensures reads { ReadsUp (option_map names_of names.entry) (F.reads files.old) (F.reads files.new) }
 {
+    modules_are_bounded();
     let Some(named) = names else {
         return Err(End::Words);
     };
@@ -104,13 +114,13 @@ fn prepare<F: Files>(
         }
         Err(_) => return Err(End::NoMemory),
     };
-    let command = match read_script(alloc, script.as_slice()) {
-        Ok(Ok(command)) => command,
+    let commands = match read_commands(alloc, script.as_slice()) {
+        Ok(Ok(commands)) => commands,
         Ok(Err(fault)) => return Err(End::ScriptRefused { line: fault.line }),
         Err(_) => return Err(End::NoMemory),
     };
     match code_of(alloc, module) {
-        Ok(code) => Ok(Accepted { code, command }),
+        Ok(code) => Ok(Accepted { code, commands }),
         Err(_) => Err(End::NoMemory),
     }
 }
@@ -148,11 +158,11 @@ fn empty_tables(alloc: Global) -> Tables
 fn empty_ending(alloc: Global, end: End, status: u8) -> Ending
     ensures end { result.end ≡ end }
     ensures status { result.status ≡ status }
-    ensures empty { IsEmpty result.journal result.tables }
+    ensures empty { IsEmpty result.journal.entries result.tables }
 {
     Ending {
         end,
-        journal: Rows::new(alloc),
+        journal: Journal::new(alloc),
         tables: empty_tables(alloc),
         status,
     }
@@ -170,14 +180,31 @@ fn ending_of(end: End, status: u8, journal: Journal, tables: Tables) -> Ending
     }
 }
 
+/// Runs what was accepted.
+#[tactic(auto, using(crate::proofs::Leaving::is_run))]
+fn run_accepted(alloc: Global, accepted: &Accepted) -> Result<Outcome, AllocError>
+    requires { IsPlan (plan_with accepted.now.code accepted.now.commands.items) }
+    ensures run { IfOk result (λ left. IsRun (plan_with accepted.now.code accepted.now.commands.items) left.journal.entries left.tables) }
+    ensures over { IfOk result (λ left. IsOverBy (plan_with accepted.now.code accepted.now.commands.items) left.limit left.journal.entries) }
+{
+    run_world(
+        alloc,
+        &accepted.code,
+        &accepted.commands,
+        SLICE,
+        MOST_WEIGHT,
+    )
+}
+
 /// Runs what was accepted, and writes the transcript of its journal.
 fn perform<S: Sink>(alloc: Global, accepted: &Accepted, mut sink: S) -> (Ending, S)
-    ensures run { Performed (plan_with accepted.now.code accepted.now.command) result.0.journal result.0.tables result.0.end }
-    ensures written { IsTranscript result.0.journal (S.written sink) (S.written result.1) (S.faults sink) (S.faults result.1) result.0.end }
+    requires { IsPlan (plan_with accepted.now.code accepted.now.commands.items) }
+    ensures run { Performed (plan_with accepted.now.code accepted.now.commands.items) result.0.journal.entries result.0.tables result.0.end }
+    ensures written { IsTranscript result.0.journal.entries (S.written sink) (S.written result.1) (S.faults sink) (S.faults result.1) result.0.end }
     ensures flag { KeepsFlag (S.flagged sink) (S.flagged result.1) result.0.end }
     ensures status { result.0.status ≡ status_of result.0.end }
 {
-    let Ok(outcome) = run_world(alloc, &accepted.code, &accepted.command) else {
+    let Ok(outcome) = run_accepted(alloc, accepted) else {
         return (empty_ending(alloc, End::NoMemory, 8), sink);
     };
     let Outcome {
@@ -185,7 +212,7 @@ fn perform<S: Sink>(alloc: Global, accepted: &Accepted, mut sink: S) -> (Ending,
         tables,
         limit,
     } = outcome;
-    match write_transcript(alloc, journal.as_slice(), &mut sink) {
+    match write_transcript(alloc, journal.entries(), &mut sink) {
         Ok(()) => {
             if limit {
                 return (ending_of(End::Limit, 6, journal, tables), sink);
@@ -300,7 +327,7 @@ fn status(end: End) -> u8
 fn refuse<S: Sink>(alloc: Global, names: Option<Named<'_>>, end: End, mut sink: S) -> (Ending, S)
     requires { IsRefusal end }
     ensures end { (result.0.end ≡ end) ⊎ (result.0.end ≡ End.NoMemory) }
-    ensures empty { IsEmpty result.0.journal result.0.tables }
+    ensures empty { IsEmpty result.0.journal.entries result.0.tables }
     ensures written { IsWritten (option_map names_of names.entry) [] (S.written sink) (S.written result.1) (S.faults sink) (S.faults result.1) (S.flagged sink) (S.flagged result.1) result.0.end }
     ensures flag { KeepsFlag (S.flagged sink) (S.flagged result.1) result.0.end }
     ensures status { result.0.status ≡ status_of result.0.end }
@@ -311,8 +338,8 @@ fn refuse<S: Sink>(alloc: Global, names: Option<Named<'_>>, end: End, mut sink: 
     }
 }
 
-/// Runs a session. The words are a script's name and a FILE's; both are read, the FILE's module is
-/// run by the script's command, and the transcript of the journal is written.
+/// Runs a session. The words are a script's name and a FILE's; both are read, the FILE's module is run and
+/// debugged by the script's commands, and the transcript of the journal is written.
 fn run_session<F: Files, S: Sink>(
     alloc: Global,
     words: &[String],
@@ -320,8 +347,8 @@ fn run_session<F: Files, S: Sink>(
     sink: S,
 ) -> (Ending, S)
     ensures cause { HasCause (names_in (map string_bytes words.now)) (F.reads files.old) (F.reads files.new) (F.faults files.old) (F.faults files.new) result.0.end }
-    ensures run { Leaves (names_in (map string_bytes words.now)) (F.reads files.old) (F.reads files.new) result.0.journal result.0.tables result.0.end }
-    ensures written { IsWritten (names_in (map string_bytes words.now)) result.0.journal (S.written sink) (S.written result.1) (S.faults sink) (S.faults result.1) (S.flagged sink) (S.flagged result.1) result.0.end }
+    ensures run { Leaves (names_in (map string_bytes words.now)) (F.reads files.old) (F.reads files.new) result.0.journal.entries result.0.tables result.0.end }
+    ensures written { IsWritten (names_in (map string_bytes words.now)) result.0.journal.entries (S.written sink) (S.written result.1) (S.faults sink) (S.faults result.1) (S.flagged sink) (S.flagged result.1) result.0.end }
     ensures flag { KeepsFlag (S.flagged sink) (S.flagged result.1) result.0.end }
     ensures reads { ReadsUp (names_in (map string_bytes words.now)) (F.reads files.old) (F.reads files.new) }
     ensures status { result.0.status ≡ status_of result.0.end }
@@ -337,13 +364,15 @@ fn run_session<F: Files, S: Sink>(
 ///
 /// The words are a script's name and a FILE's (`Words`, status 2, where they aren't). The script is
 /// read first and then the FILE, each up to 1,000,001 bytes (`FileFault`, status 3, where a read
-/// fails). The FILE is a module of the small language (`ModuleRefused`, status 4) and the script a
-/// line `start M F LIST` (`ScriptRefused`, status 5). Then the process is run, in slices of at most
-/// 100 moves, until it ends (`Done`, status 0) or the journal's weight reaches 100,000 (`Limit`,
-/// status 6), and the transcript is written, one write for each entry that has lines. After a write
-/// that fails no more is written (`WriteFault`, status 7). `NoMemory`, status 8, comes where memory
-/// was refused. A refusal writes its one line, and a fault of that write changes nothing. The sink
-/// is handed back. docs/DEFINITIONS.md says where each of these words is defined.
+/// fails). The FILE is a module of the small language (`ModuleRefused`, status 4); the script's lines
+/// are blank or give the commands of docs/COMMANDS.md, with one `start` among them (`ScriptRefused`,
+/// status 5). Then the console's commands are answered in order and the process that they start is
+/// run, in slices of at most 100 moves, until all are answered and no process can go on (`Done`,
+/// status 0) or the journal's weight reaches 100,000 (`Limit`, status 6). Then the transcript is
+/// written, one write for each entry that has lines; after a write that fails no more is written
+/// (`WriteFault`, status 7). `NoMemory`, status 8, comes where memory was refused. A refusal writes
+/// its one line, and a fault of that write changes nothing. The sink is handed back.
+/// docs/DEFINITIONS.md says where each of these words is defined.
 pub fn session<F: Files, S: Sink + Drop>(
     alloc: Global,
     words: &[String],
@@ -353,13 +382,15 @@ pub fn session<F: Files, S: Sink + Drop>(
     // Why the session ended so.
     ensures cause { HasCause (names_in (map string_bytes words.now)) (F.reads files.old) (F.reads files.new) (F.faults files.old) (F.faults files.new) result.0.end }
 
-    // The journal is legal; struck of the debugger's entries it is a plain run of the module that was
-    // read; the tables are those that this run leaves.
-    ensures run { Leaves (names_in (map string_bytes words.now)) (F.reads files.old) (F.reads files.new) result.0.journal result.0.tables result.0.end }
+    // The journal is legal: it answers the console's commands once and in order, each with the reply of a
+    // server of one thread, and each process stopped exactly where what it had last taken in required.
+    // Struck of the debugger's entries it is a plain run of the module that was read; the tables are those
+    // that this run leaves. edb_rules' laws say what follows.
+    ensures run { Leaves (names_in (map string_bytes words.now)) (F.reads files.old) (F.reads files.new) result.0.journal.entries result.0.tables result.0.end }
 
     // The bytes written are the transcript of the journal, a part of it after a fault, or the
     // refusal's line.
-    ensures written { IsWritten (names_in (map string_bytes words.now)) result.0.journal (S.written sink) (S.written result.1) (S.faults sink) (S.faults result.1) (S.flagged sink) (S.flagged result.1) result.0.end }
+    ensures written { IsWritten (names_in (map string_bytes words.now)) result.0.journal.entries (S.written sink) (S.written result.1) (S.faults sink) (S.faults result.1) (S.flagged sink) (S.flagged result.1) result.0.end }
     ensures flag { KeepsFlag (S.flagged sink) (S.flagged result.1) result.0.end }
     ensures reads { ReadsUp (names_in (map string_bytes words.now)) (F.reads files.old) (F.reads files.new) }
     ensures status { result.0.status ≡ status_of result.0.end }
@@ -368,13 +399,13 @@ pub fn session<F: Files, S: Sink + Drop>(
     ensures exact_words { WordsExactly (names_in (map string_bytes words.now)) result.0.end }
     ensures exact_module { ModuleExactly (names_in (map string_bytes words.now)) (F.reads files.old) (F.reads files.new) result.0.end }
     ensures exact_script { ScriptExactly (names_in (map string_bytes words.now)) (F.reads files.old) (F.reads files.new) result.0.end }
-    ensures exact_done { DoneExactly (names_in (map string_bytes words.now)) (F.reads files.old) (F.reads files.new) result.0.journal (S.flagged sink) (S.flagged result.1) result.0.end }
-    ensures exact_limit { LimitExactly (names_in (map string_bytes words.now)) (F.reads files.old) (F.reads files.new) result.0.journal (S.flagged sink) (S.flagged result.1) result.0.end }
+    ensures exact_done { DoneExactly (names_in (map string_bytes words.now)) (F.reads files.old) (F.reads files.new) result.0.journal.entries (S.flagged sink) (S.flagged result.1) result.0.end }
+    ensures exact_limit { LimitExactly (names_in (map string_bytes words.now)) (F.reads files.old) (F.reads files.new) result.0.journal.entries (S.flagged sink) (S.flagged result.1) result.0.end }
 
     // Right words, no fault, an accepted module and an accepted script lead to Done or Limit.
     ensures complete { IsComplete (names_in (map string_bytes words.now)) (F.reads files.old) (F.reads files.new) (F.faults files.old) (F.faults files.new) (S.faults sink) (S.faults result.1) result.0.end }
 {
     one_module();
-    one_script();
+    one_listing();
     run_session(alloc, words, files, sink)
 }

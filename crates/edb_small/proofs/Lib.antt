@@ -12,3 +12,4 @@ pub mod Names
 pub mod Texts
 pub mod Small
 pub mod Whole
+pub mod Bounds

@@ -76,7 +76,7 @@ parameters_few (Pat.variable l x ∷ (q ∷ ps)) = omega (arith, parameters_few 
 function_few : (f : FunctionTree) → length f.parameters ≤ length (written_function f)
 function_few f = omega (arith, parameters_few f.parameters, length-append {A = Written})
 
-functions_few : (fs : List FunctionTree) (n : ℕ) → length (written_functions fs) ≤ n → Each FunctionTree (λ f. length f.parameters ≤ n) fs
+pub functions_few : (fs : List FunctionTree) (n : ℕ) → length (written_functions fs) ≤ n → Each FunctionTree (λ f. length f.parameters ≤ n) fs
 functions_few [] n h = tt
 functions_few (f ∷ fs) n h =
     let whole = length-append (written_function f) (written_functions fs) in
@@ -105,7 +105,7 @@ exports_small fs n few each (e ∷ es) h =
     let small : nat_lt e.arity 4294967296 ≡ true = grind (arith, nat_tests, arity, few) in
     (small, exports_small fs n few each es parts.1)
 
-functions_within : (m : ModuleTree) → length (written_functions m.functions) ≤ length (written_module m)
+pub functions_within : (m : ModuleTree) → length (written_functions m.functions) ≤ length (written_module m)
 functions_within m = omega (arith, length-append {A = Written})
 
 -- a small module that a text can hold is read again, and passes

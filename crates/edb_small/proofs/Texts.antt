@@ -9,7 +9,7 @@ use Rattle.edb_scan.specs.Parting.{Parted, at_end, at_fault, next_piece, placed,
 use Rattle.edb_scan.proofs.OnePiece.{begins_some}
 use Rattle.edb_small.specs.Grammar.{Written, Agrees}
 use Rattle.edb_small.proofs.Spelled.{Each}
-use Rattle.edb_small.proofs.Complete.{IsFine, Meets}
+use Rattle.edb_small.proofs.Complete.{IsFine, Meets, meets_length}
 
 abbrev pub AllFine : List Placed → Type 0
 AllFine ts = Each Placed (λ p. IsFine p.token) ts
@@ -57,3 +57,8 @@ meets_of [] [] all h = tt
 meets_of [] (w ∷ ws) all h = absurd h
 meets_of (p ∷ ps) [] all h = absurd h
 meets_of (p ∷ ps) (w ∷ ws) all h = (h.0, h.1, subst (λ t. IsFine t) h.0 all.0, meets_of ps ws all.1 h.2)
+
+-- what is written keeps to the length of its text
+pub written_few : (bytes : List ℕ) (ts : List Placed) (ws : List Written) → AreTokens bytes ts → Agrees ts ws → length ws ≤ 1000000
+written_few bytes ts ws scanned agrees =
+    omega (arith, meets_length ts ws (meets_of ts ws (tokens_fine bytes ts scanned) agrees), tokens_few bytes ts scanned)

@@ -1,6 +1,6 @@
 -- What is read of a whole text is its module, and each module that it writes is read.
 
-use Rattle.std.proofs.Common.{◌≡◌, ℕ, ◌≤◌, true, false, List, length, None, Some, sym, ap, ◌∙◌, subst, arith}
+use Rattle.std.proofs.Common.{◌≡◌, ℕ, true, false, List, None, Some, sym, ap, ◌∙◌, subst}
 use Rattle.edb_lang.specs.Syntax.{ModuleTree}
 use Rattle.edb_scan.specs.declared.lexeme.Placed.{Placed}
 use Rattle.edb_scan.specs.Parting.{AreTokens}
@@ -8,11 +8,10 @@ use Rattle.edb_small.specs.Grammar.{written_module, Agrees}
 use Rattle.edb_small.specs.SmallModule.{is_plain, IsModule}
 use Rattle.edb_small.specs.Descent.{module_at}
 use Rattle.edb_small.specs.Checks.{module_passes}
-use Rattle.edb_small.proofs.Complete.{meets_length}
 use Rattle.edb_small.proofs.SoundModule.{module_is}
 use Rattle.edb_small.proofs.CompleteModule.{module_reads}
 use Rattle.edb_small.proofs.Small.{small_module, readable_module}
-use Rattle.edb_small.proofs.Texts.{tokens_fine, tokens_few, meets_of}
+use Rattle.edb_small.proofs.Texts.{tokens_fine, meets_of, written_few}
 
 pub is_module : (bytes : List ℕ) (ts : List Placed) (m : ModuleTree) → is_plain bytes ≡ true → AreTokens bytes ts → module_at ts ≡ Some m → module_passes m ≡ true → IsModule bytes m
 is_module bytes ts m plain scanned found passes =
@@ -27,7 +26,7 @@ read_again one bytes ts m scanned is =
     let same = one bytes is.tokens ts is.scanned scanned in
     let agrees = subst (λ us. Agrees us (written_module m)) same is.spelled in
     let meets = meets_of ts (written_module m) (tokens_fine bytes ts scanned) agrees in
-    let few : length (written_module m) ≤ 1000000 = omega (arith, meets_length ts (written_module m) meets, tokens_few bytes ts scanned) in
+    let few = written_few bytes ts (written_module m) scanned agrees in
     let readable = readable_module m is.exports is.small few in
     (module_reads m readable.0 ts meets, readable.1)
 

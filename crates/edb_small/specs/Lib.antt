@@ -3,3 +3,4 @@ pub mod Conditions
 pub mod SmallModule
 pub mod Descent
 pub mod Checks
+pub mod Bounds

@@ -13,4 +13,4 @@ mod tokens;
 mod top;
 mod walks;
 
-pub use top::{one_module, read_module};
+pub use top::{modules_are_bounded, one_module, read_module};

@@ -3,6 +3,7 @@
 ghost use Rattle.std.specs.Prelude.{◌≡◌, List, ℕ, IfOk, IfSome, IfNone};
 ghost use Rattle.edb_lang.specs.Syntax.{ModuleTree};
 ghost use Rattle.edb_small.specs.SmallModule.{IsModule, is_plain};
+ghost use Rattle.edb_small.specs.Bounds.{IsBounded};
 
 use crate::conditions::module_passes;
 use crate::heads::module_of;
@@ -51,3 +52,9 @@ pub fn one_module()
 {
     one_answer();
 }
+
+/// The law that the names of a module and of its functions have at most 255 characters, and that each function
+/// has fewer than 2 ^ 32 parameters.
+pub fn modules_are_bounded()
+    ensures { (bytes : List ℕ) (m : ModuleTree) → IsModule bytes m → IsBounded m }
+{}

@@ -1,6 +1,6 @@
 use Rattle.std.proofs.Common.{◌≡◌, ◌≤◌, take}
 use Rattle.edb_io.specs.Writes.{Appended}
-use Rattle.edb_session.specs.Rendering.{transcript}
+use Rattle.edb_report.specs.Rendering.{transcript}
 use Rattle.edb_session.proofs.render.write_transcript.Given as goal
 
 -- the lines of the entries so far were written, each write was Ok

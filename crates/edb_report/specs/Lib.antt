@@ -1,0 +1,4 @@
+pub mod Commands
+pub mod Rendering
+pub mod Replies
+pub mod Words

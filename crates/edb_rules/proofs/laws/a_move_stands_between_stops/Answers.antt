@@ -1,0 +1,5 @@
+use Rattle.edb_rules.proofs.Moved.{a_move}
+use Rattle.edb_rules.proofs.laws.a_move_stands_between_stops.Goals as goal
+
+pub returns : goal.returns
+returns c = a_move

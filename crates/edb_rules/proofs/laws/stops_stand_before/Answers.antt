@@ -1,0 +1,5 @@
+use Rattle.edb_rules.proofs.Places.{stands_before}
+use Rattle.edb_rules.proofs.laws.stops_stand_before.Goals as goal
+
+pub returns : goal.returns
+returns c = stands_before

@@ -1,0 +1,16 @@
+pub mod Plans
+pub mod Facts
+pub mod Slices
+pub mod Replies
+pub mod Notes
+pub mod Legal
+pub mod Stops
+pub mod Begins
+pub mod Bounds
+pub mod Commands
+pub mod Between
+pub mod Taken
+pub mod Made
+pub mod Tells
+pub mod Inside
+pub mod PlainRuns

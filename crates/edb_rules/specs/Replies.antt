@@ -1,0 +1,198 @@
+-- What a console is answered, as one thread that serves all commands would.
+
+use Rattle.std.specs.Prelude.{ℕ, zero, suc, Bool, true, false, if◌then◌else◌, not, ◌&&◌, ◌||◌, nat_eq, nat_le, nat_lt, List, [], ◌∷◌, ◌++◌, length, map, is_some, is_none, find, Option, None, Some, slice_index_or, codes}
+use Rattle.std.specs.Option.{option_map}
+use Rattle.std.specs.List.{list_any}
+use Rattle.edb_lang.specs.Pairs.{Pairs}
+use Rattle.edb_lang.specs.TermText.{same_name, term_text}
+use Rattle.edb_lang.specs.Syntax.{ModuleTree}
+use Rattle.edb_breaks.specs.Table.{row_at, with_row}
+use Rattle.edb_model.specs.declared.tables.NameRow.{NameRow}
+use Rattle.edb_model.specs.Running.{Info, Run}
+use Rattle.edb_model.specs.Plain.{process_at}
+use Rattle.edb_model.specs.Labels.{most_processes}
+use Rattle.edb_event.specs.declared.call.Call.{Call}
+use Rattle.edb_event.specs.declared.call.Call.TheVariants as call
+use Rattle.edb_event.specs.declared.call.Word.{Word}
+use Rattle.edb_event.specs.declared.call.Word.TheVariants as word
+use Rattle.edb_event.specs.declared.call.Command.{Command}
+use Rattle.edb_event.specs.declared.call.ProcStatus.{ProcStatus}
+use Rattle.edb_event.specs.declared.call.ProcStatus.TheVariants as status
+use Rattle.edb_event.specs.declared.reply.Refusal.{Refusal}
+use Rattle.edb_event.specs.declared.reply.Refusal.TheVariants as refusal
+use Rattle.edb_event.specs.declared.reply.Reply.{Reply}
+use Rattle.edb_event.specs.declared.reply.Reply.TheVariants as reply
+use Rattle.edb_rules.specs.Plans.{Plan}
+use Rattle.edb_rules.specs.Facts.{Facts, debugged_at, with_debugged, is_among}
+use Rattle.edb_model.specs.Innermost.{innermost}
+
+-- Processes are numbered from 1 in the order of their making.
+abbrev pub is_made : Facts → ℕ → Bool
+is_made f p = nat_le 1 p && nat_le p (length f.plain.processes)
+
+abbrev pub is_ended : Facts → ℕ → Bool
+is_ended f p = is_none (process_at f.plain p).running
+
+-- The status of a process: `exit` where it has ended, `break` where it is stopped, `running` where it has a meta,
+-- else `idle`. None waits for a message yet.
+abbrev pub status_at : Facts → ℕ → ProcStatus
+status_at f p =
+    if is_ended f p then status.Exit
+    else if (debugged_at f p).stopped then status.Break
+    else if (debugged_at f p).meta then status.Running
+    else status.Idle
+
+abbrev pub same_status : ProcStatus → ProcStatus → Bool
+same_status status.Idle status.Idle = true
+same_status status.Running status.Running = true
+same_status status.Waiting status.Waiting = true
+same_status status.Break status.Break = true
+same_status status.Exit status.Exit = true
+same_status _ _ = false
+
+abbrev pub has_status : Facts → ℕ → ProcStatus → Bool
+has_status f p s = is_made f p && same_status (status_at f p) s
+
+-- the process of a registered name
+abbrev pub named_process : List ℕ → List NameRow → ℕ
+named_process x [] = 0
+named_process x (r ∷ rs) = if same_name r.name x then r.pid else named_process x rs
+
+-- The process that a word names: a number itself, also where no such process was made; the K-th that the console's
+-- own starts made; a registered name's; that of the last await that had a status. Any other word names process 0.
+abbrev pub process_of : Facts → Word → ℕ
+process_of f word.Absent = 0
+process_of f (word.Number n) = n
+process_of f (word.Own zero) = 0
+process_of f (word.Own (suc k)) = slice_index_or f.own k 0
+process_of f (word.Named x) = named_process x f.plain.names
+process_of f word.Last = f.last
+
+-- a command about this process
+abbrev pub about : Call → ℕ → Call
+about (call.Ia q) p = call.Ia p
+about (call.Detach q) p = call.Detach p
+about (call.Step q) p = call.Step p
+about (call.Next q) p = call.Next p
+about (call.Finish q) p = call.Finish p
+about (call.Halt q) p = call.Halt p
+about (call.Continue q) p = call.Continue p
+about (call.Bindings q) p = call.Bindings p
+about (call.Frames q) p = call.Frames p
+about (call.Await q s) p = call.Await p s
+about c p = c
+
+-- the console's next command, its word found to be a process; none once all were served
+abbrev pub next_call : Plan → Facts → Option Call
+next_call plan f = resolved (slice_at plan.commands f.served)
+  where
+    slice_at : List Command → ℕ → Option Command
+    slice_at [] k = None
+    slice_at (c ∷ cs) zero = Some c
+    slice_at (c ∷ cs) (suc k) = slice_at cs k
+
+    resolved : Option Command → Option Call
+    resolved None = None
+    resolved (Some c) = Some (about c.call (process_of f c.word))
+
+-- an await is enabled where its process is there and has the status; every other command is
+abbrev pub is_enabled : Facts → Call → Bool
+is_enabled f (call.Await p s) = has_status f p s
+is_enabled f _ = true
+
+-- the console that is attached to a process
+abbrev pub console_of : ℕ → List (ℕ × ℕ) → Option ℕ
+console_of p pairs = option_map (λ a. a.1) (find (λ a. nat_eq a.0 p) pairs)
+
+abbrev pub is_console_of : ℕ → ℕ → List (ℕ × ℕ) → Bool
+is_console_of c p pairs = list_any (λ a. nat_eq a.0 p && nat_eq a.1 c) pairs
+
+-- the first refusal whose case holds
+abbrev pub first_case : List (Bool × Refusal) → Option Refusal
+first_case [] = None
+first_case (c ∷ cs) = if c.0 then Some c.1 else first_case cs
+
+-- whether some file holds a module
+abbrev pub is_held : List ModuleTree → List ℕ → Bool
+is_held code m = list_any (λ x. same_name x.name m) code
+
+-- the refusals of a command about a process
+abbrev pub no_process : Facts → ℕ → Bool × Refusal
+no_process f p = (not (is_made f p), refusal.NoProcess)
+
+abbrev pub not_interpreted : Facts → ℕ → Bool × Refusal
+not_interpreted f p = (not (debugged_at f p).meta || is_ended f p, refusal.NotInterpreted)
+
+abbrev pub not_attached : Facts → ℕ → ℕ → Bool × Refusal
+not_attached f c p = (not (is_console_of c p f.server.attached), refusal.NotAttached)
+
+abbrev pub not_stopped : Facts → ℕ → Bool × Refusal
+not_stopped f p = (not (debugged_at f p).stopped, refusal.NotStopped)
+
+-- The commands that are served yet: no rule admits another, and a script that has one is refused.
+abbrev pub is_served : Call → Bool
+is_served (call.Start m n args) = true
+is_served (call.Ii m) = true
+is_served (call.Ib m l) = true
+is_served (call.Ia p) = true
+is_served (call.Continue p) = true
+is_served (call.Bindings p) = true
+is_served (call.Await p s) = true
+is_served _ = false
+
+-- why a command is refused, where it is
+abbrev pub refused : Plan → Facts → ℕ → Call → Option Refusal
+refused plan f c (call.Start m n args) = first_case ((not (nat_lt (length f.plain.processes) most_processes), refusal.SystemLimit) ∷ [])
+refused plan f c (call.Ii m) = first_case ((not (is_held plan.code m), refusal.NoModule) ∷ [])
+refused plan f c (call.Ib m l) = first_case ((is_some (row_at m l f.server.table), refusal.BreakExists) ∷ [])
+refused plan f c (call.Ia p) =
+    first_case (no_process f p ∷ (not_interpreted f p ∷ ((is_some (console_of p f.server.attached), refusal.AlreadyAttached) ∷ [])))
+refused plan f c (call.Continue p) = first_case (no_process f p ∷ (not_interpreted f p ∷ []))
+refused plan f c (call.Bindings p) = first_case (no_process f p ∷ (not_interpreted f p ∷ (not_attached f c p ∷ (not_stopped f p ∷ []))))
+refused plan f c _ = None
+
+-- `Name = term`, a row for each variable
+abbrev pub binding_rows : Pairs → List (List ℕ)
+binding_rows ps = map (λ p. (p.0 ++ codes " = ") ++ term_text p.1) ps
+
+-- the bindings of the innermost Body of what a process has to do
+abbrev pub bindings_at : Facts → ℕ → Pairs
+bindings_at f p = of_body (option_body (process_at f.plain p).running)
+  where
+    option_body : Option Run → Option Info
+    option_body None = None
+    option_body (Some t) = innermost t
+
+    of_body : Option Info → Pairs
+    of_body None = []
+    of_body (Some i) = i.bindings
+
+-- the answer of a command that isn't refused
+abbrev pub answer : Facts → Call → Reply
+answer f (call.Bindings p) = reply.Rows (binding_rows (bindings_at f p))
+answer f (call.Await p s) = reply.Status p s
+answer f _ = reply.Ok
+
+-- the reply to a command that is enabled
+abbrev pub reply_to : Plan → Facts → ℕ → Call → Reply
+reply_to plan f c x = of (refused plan f c x)
+  where
+    of : Option Refusal → Reply
+    of (Some r) = reply.Refused r
+    of None = answer f x
+
+-- what a command that isn't refused changes in the server and in what it knows of a process
+abbrev pub served : Facts → ℕ → Call → Facts
+served f c (call.Ii m) =
+    record f { server = record f.server { interpreted = if is_among m f.server.interpreted then f.server.interpreted else f.server.interpreted ++ m ∷ [] } }
+served f c (call.Ib m l) = record f { server = record f.server { table = with_row m l f.server.table } }
+served f c (call.Ia p) = record f { server = record f.server { attached = f.server.attached ++ (p, c) ∷ [] } }
+served f c (call.Continue p) = with_debugged f p (record (debugged_at f p) { stopped = false })
+served f c (call.Await p s) = record f { last = p }
+served f c _ = f
+
+-- a reply that changes something: what was refused, or answered `quiet`, changes nothing
+abbrev pub after_reply : Facts → ℕ → Call → Reply → Facts
+after_reply f c x (reply.Refused r) = f
+after_reply f c x reply.Quiet = f
+after_reply f c x _ = served f c x

@@ -1,0 +1,40 @@
+-- What a session's journal says of stops, commands and replies.
+
+use Rattle.std.specs.Prelude.{◌≡◌, ℕ, ◌<◌, List, length, Some, slice_get, take}
+use Rattle.edb_event.specs.declared.call.Call.{Call}
+use Rattle.edb_event.specs.declared.entry.Cause.{Cause}
+use Rattle.edb_event.specs.declared.entry.Entry.{Entry}
+use Rattle.edb_event.specs.declared.entry.Entry.TheVariants as entry
+use Rattle.edb_event.specs.declared.reply.Reply.{Reply}
+use Rattle.edb_rules.specs.Plans.{Plan}
+use Rattle.edb_rules.specs.Facts.{debugged_at}
+use Rattle.edb_rules.specs.Notes.{facts}
+use Rattle.edb_rules.specs.Legal.{IsAnswer, IsDone}
+use Rattle.edb_rules.specs.Stops.{WasDue, PassesNone}
+use Rattle.edb_rules.specs.Commands.{command_of, commands_in, IsCommandAt}
+
+-- Each stop stands where a beginning was due, by what its process had last taken in.
+abbrev pub StopsWereDue : Plan → List Entry → Type 0
+StopsWereDue plan journal =
+    (k p : ℕ) (m : List ℕ) (l n : ℕ) (by : Cause) → slice_get journal k ≡ Some (entry.Stop p m l n by)
+    → WasDue (debugged_at (facts plan (take k journal)) p).taken m l by
+
+-- No move passes a beginning that is due.
+abbrev pub NoneWasPassed : Plan → List Entry → Type 0
+NoneWasPassed plan journal =
+    (k p n c : ℕ) → slice_get journal k ≡ Some (entry.Ran p n c) → PassesNone plan (facts plan (take k journal)) p n
+
+-- The console's commands come once and in order, each with its word found to be a process at its entry's place.
+abbrev pub CommandsInOrder : Plan → List Entry → Type 0
+CommandsInOrder plan journal =
+    (k : ℕ) (e : Entry) (c : ℕ) (x : Call) → slice_get journal k ≡ Some e → command_of e ≡ Some (c, x)
+    → (c ≡ 1) × IsCommandAt plan (facts plan (take k journal)) (commands_in (take k journal)) x
+
+-- All of them come, where nothing is left to do.
+abbrev pub AllCame : Plan → List Entry → Type 0
+AllCame plan journal = IsDone plan (facts plan journal) → commands_in journal ≡ length plan.commands
+
+-- Each reply is that of one thread which serves all commands.
+abbrev pub RepliesOfOneThread : Plan → List Entry → Type 0
+RepliesOfOneThread plan journal =
+    (k c : ℕ) (x : Call) (r : Reply) → slice_get journal k ≡ Some (entry.Served c x r) → IsAnswer plan (facts plan (take k journal)) 1 x r

@@ -1,0 +1,14 @@
+pub mod Patterns
+pub mod Syntax
+pub mod Forms
+pub mod Depths
+pub mod Sizes
+pub mod OperationCodes
+pub mod PatternCodes
+pub mod Codes
+pub mod ModuleCodes
+pub mod PatternViews
+pub mod Views
+pub mod Kinds
+pub mod PatternFalls
+pub mod Falls

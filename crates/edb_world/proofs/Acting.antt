@@ -1,0 +1,64 @@
+-- The entry of an act of the process that has the turn may stand.
+
+use Rattle.std.proofs.Common.{◌≡◌, ℕ, ◌+◌, Bool, true, false, List, [], ◌∷◌, ◌++◌, Option, Some, refl, sym, ◌∙◌, ap, subst, zero, suc}
+use Rattle.std.proofs.lemmas.Bool.{both_ways}
+use Rattle.edb_model.specs.declared.act.ActKind.{ActKind}
+use Rattle.edb_model.specs.declared.act.ActKind.TheVariants as kind
+use Rattle.edb_model.specs.Running.{Run}
+use Rattle.edb_model.specs.Move.{acts, next, redex, answered}
+use Rattle.edb_model.specs.Acts.{displayed, true_term, ended, exit_reason}
+use Rattle.edb_model.specs.Plain.{Plain, process_at, with_process}
+use Rattle.edb_event.specs.declared.entry.Entry.{Entry}
+use Rattle.edb_event.specs.declared.entry.Entry.TheVariants as entry
+use Rattle.edb_rules.specs.Plans.{Plan}
+use Rattle.edb_rules.specs.Facts.{Facts, debugged_at}
+use Rattle.edb_rules.specs.Notes.{note}
+use Rattle.edb_event.specs.Ranges.{IsEntry}
+use Rattle.edb_rules.specs.Legal.{MayBegin, NoTrigger, NoCommand, NoLease, HasTurn, May}
+use Rattle.edb_rules.proofs.OneJournal.{did_none_new}
+use Rattle.edb_rules.proofs.Stops.{did_coming}
+use Rattle.edb_world.specs.declared.world.World.{World}
+use Rattle.edb_world.specs.Known.{noted}
+use Rattle.edb_world.specs.Turns.{IsFirstReady, act_entry}
+use Rattle.edb_world.specs.Plans.{IsPlan}
+use Rattle.edb_world.specs.Worlds.{Keeps, Went}
+use Rattle.edb_world.proofs.Growing.{none_out}
+use Rattle.edb_world.proofs.Turning.{went, in_range}
+
+abbrev pub turn : (plan : Plan) (f : Facts) (p : ℕ) → MayBegin plan f → NoTrigger f → NoCommand plan f → IsFirstReady f p → HasTurn plan f p
+turn plan f p begin quiet none first =
+    record { call = begin; no_trigger = quiet; no_command = none; ready = first.ready; first = first.first }
+
+pub print_may : (plan : Plan) (f : Facts) (p : ℕ) → MayBegin plan f → NoTrigger f → NoCommand plan f → (first : IsFirstReady f p)
+    → next first.ready.running ≡ acts kind.Print → May plan f (act_entry p kind.Print first.ready.running)
+print_may plan f p begin quiet none first is =
+    record {
+      rule = record { turn = turn plan f p begin quiet none first; is_next = is; answer = refl; prints = refl };
+      plain = record (with_process f.plain p (record (process_at f.plain p) { running = Some (answered true_term first.ready.running) })) { output = f.plain.output ++ displayed (redex first.ready.running).1 };
+      enabled = rw first.ready.lives (rw is refl);
+    }
+
+pub end_may : (plan : Plan) (f : Facts) (p : ℕ) → MayBegin plan f → NoTrigger f → NoCommand plan f → (first : IsFirstReady f p)
+    → next first.ready.running ≡ acts kind.End → May plan f (act_entry p kind.End first.ready.running)
+end_may plan f p begin quiet none first is =
+    record {
+      rule = record { turn = turn plan f p begin quiet none first; is_next = is; answer = refl; prints = refl };
+      plain = with_process f.plain p (ended (process_at f.plain p) (exit_reason first.ready.running));
+      enabled = rw first.ready.lives (rw is refl);
+    }
+
+-- an act of the process that has the turn leads to a world that goes on
+pub act_went : (old new : World) (p : ℕ) (k : ActKind) (t : Run) (e : Entry) → Keeps old → NoLease old.state.facts → May old.state.plan old.state.facts (act_entry p k t)
+    → e ≡ act_entry p k t → new.state ≡ noted old.state e → new.journal.entries ≡ old.journal.entries ++ e ∷ [] → Went old new
+act_went old new p k t e keeps none may is state entries =
+    let s = old.state in
+    went old new (act_entry p k t) keeps may none
+    (did_coming s.plan s.facts p k _ _ ∙ keeps.whole)
+    (none_out s.facts (note s.plan s.facts (act_entry p k t)) none (did_none_new s.plan s.facts p k _ _))
+    (state ∙ ap (λ (x : Entry). noted s x) is)
+    (entries ∙ ap (λ (x : Entry). old.journal.entries ++ x ∷ []) is)
+
+pub act_in_range : (w : World) (p : ℕ) (k : ActKind) (t : Run) (e : Entry) → IsPlan w.state.plan → Keeps w → May w.state.plan w.state.facts (act_entry p k t)
+    → e ≡ act_entry p k t → IsEntry e
+act_in_range w p k t e plan keeps may is =
+    subst (λ (x : Entry). IsEntry x) (sym is) (in_range w.state.plan w.journal.entries w.state.facts (act_entry p k t) plan keeps.kept may)

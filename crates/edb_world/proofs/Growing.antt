@@ -1,0 +1,60 @@
+-- A journal that grows by an entry of its turn stays legal and of one hand, and has the facts of one entry more.
+
+use Rattle.std.proofs.Common.{◌≡◌, ℕ, ◌+◌, ◌<◌, ◌≤◌, Bool, true, false, List, [], ◌∷◌, ◌++◌, Option, Some, refl, sym, ◌∙◌, ap, subst, arith, max}
+use Rattle.std.proofs.lemmas.Bool.{both_ways}
+use Rattle.edb_model.specs.declared.act.ActKind.TheVariants as kind
+use Rattle.edb_event.specs.declared.entry.Entry.{Entry}
+use Rattle.edb_event.specs.declared.entry.Entry.TheVariants as entry
+use Rattle.edb_event.specs.declared.call.Call.{Call}
+use Rattle.edb_event.specs.declared.reply.Reply.{Reply}
+use Rattle.edb_event.specs.Weights.{weight_of}
+use Rattle.edb_rules.specs.Plans.{Plan}
+use Rattle.edb_rules.specs.Facts.{Facts, at_first, debugged_at}
+use Rattle.edb_rules.specs.Notes.{note, after, facts}
+use Rattle.edb_rules.specs.Legal.{May, MayAlone, JudgedFrom, Legal, IsOneHanded, NoLease}
+use Rattle.edb_rules.proofs.Journals.{after_push, legal_push}
+use Rattle.edb_rules.proofs.OneJournal.{none_new, start_none_new, reply_none_new, did_none_new}
+use Rattle.edb_world.specs.Worlds.{IsKept}
+
+pub judged_push : (judge : Plan → Facts → Entry → Type 0) (plan : Plan) (f : Facts) (es : List Entry) (e : Entry)
+    → JudgedFrom judge plan f es → judge plan (after plan f es) e → JudgedFrom judge plan f (es ++ e ∷ [])
+judged_push judge plan f [] e l m = (m, tt)
+judged_push judge plan f (d ∷ es) e l m = (l.0, judged_push judge plan (note plan f d) es e l.1 m)
+
+pub grown : (plan : Plan) (journal : List Entry) (f : Facts) (e : Entry) → IsKept plan journal f → May plan f e → MayAlone plan f e
+    → IsKept plan (journal ++ e ∷ []) (note plan f e)
+grown plan journal f e k may alone =
+    record {
+      legal = legal_push plan (at_first plan) journal e k.legal (subst (λ (g : Facts). May plan g e) (sym k.facts) may);
+      one_hand = judged_push MayAlone plan (at_first plan) journal e k.one_hand (subst (λ (g : Facts). MayAlone plan g e) (sym k.facts) alone);
+      facts = after_push plan (at_first plan) journal e ∙ ap (λ (g : Facts). note plan g e) k.facts;
+    }
+
+-- each entry weighs something
+pub weighs : (e : Entry) → 1 ≤ weight_of e
+weighs (entry.Start c p m n args) = omega arith
+weighs (entry.Load c m v) = omega arith
+weighs (entry.Lease p b) = omega arith
+weighs (entry.Ran p n c) = omega arith
+weighs (entry.Ask p k) = omega arith
+weighs (entry.Did p k v bytes) = omega arith
+weighs (entry.Took p) = omega arith
+weighs (entry.Forward p) = omega arith
+weighs (entry.Leave p) = omega arith
+weighs (entry.Enter p m n a) = omega arith
+weighs (entry.Signal p r) = omega arith
+weighs (entry.Advance t) = omega arith
+weighs (entry.Stop p m l n by) = omega arith
+weighs (entry.Trigger p m l s a applied) = omega arith
+weighs (entry.Served c x r) = omega arith
+
+pub heavier : (plan : Plan) (f : Facts) (e : Entry) → f.weight < (note plan f e).weight
+heavier plan f e = omega (arith, weighs e)
+
+-- what isn't true is false
+pub is_false : (b : Bool) → (b ≡ true → ⊥) → b ≡ false
+is_false true denied = absurd (denied refl)
+is_false false denied = refl
+
+pub none_out : (f g : Facts) → NoLease f → ((q : ℕ) → (debugged_at g q).out ≡ true → (debugged_at f q).out ≡ true) → NoLease g
+none_out f g none fewer q = is_false (debugged_at g q).out (λ o. both_ways _ (none q) (fewer q o))

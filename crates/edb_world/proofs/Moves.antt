@@ -1,0 +1,183 @@
+-- The moves of a slice are steps of a plain run, which change one process alone.
+
+use Rattle.std.proofs.Common.{◌≡◌, ℕ, zero, suc, ◌+◌, ◌-◌, ◌<◌, ◌≤◌, max, nat_eq, Bool, true, false, if◌then◌else◌, not, ◌&&◌, List, [], ◌∷◌, ◌++◌, Option, None, Some, IsSome, replicate, slice_index_or, slice_set, refl, sym, ◌∙◌, ap, arith}
+use Rattle.std.specs.Option.{option_and_then}
+use Rattle.std.proofs.lemmas.Option.{none-some}
+use Rattle.edb_lang.specs.Syntax.{ModuleTree}
+use Rattle.edb_model.specs.Running.{Run}
+use Rattle.edb_model.specs.Move.{Next, begins, acts, pure, next, is_move, moved}
+use Rattle.edb_model.specs.Plain.{Process, Plain, nobody, process_at, with_process}
+use Rattle.edb_model.specs.Labels.{Label, move, moved_in, step, steps}
+use Rattle.edb_event.specs.declared.entry.Entry.TheVariants as entry
+use Rattle.edb_rules.specs.Facts.{Handout, Debugged, debugged_at, with_debugged}
+use Rattle.edb_rules.specs.Slices.{SliceEnd, leaves, at_next, end_at, after_moves, has_body, IsSlice}
+use Rattle.edb_rules.proofs.Journals.{steps_append}
+use Rattle.edb_world.specs.declared.slices.Slice.{Slice}
+use Rattle.edb_world.specs.Known.{Known, noted, coming, running_at}
+use Rattle.edb_world.specs.Turns.{MakesSlice, IsSliceOf}
+
+-- a process that is put in its place, and one put there after another
+here : (qs : List Process) (n : ℕ) (q : Process) (t : Run) → (slice_index_or qs n nobody).running ≡ Some t → slice_index_or (slice_set qs n q) n nobody ≡ q
+here [] n q t e = absurd (none-some t e)
+here (x ∷ xs) zero q t e = refl
+here (x ∷ xs) (suc n) q t e = here xs n q t e
+
+twice : (qs : List Process) (n : ℕ) (q r : Process) → slice_set (slice_set qs n q) n r ≡ slice_set qs n r
+twice [] n q r = refl
+twice (x ∷ xs) zero q r = refl
+twice (x ∷ xs) (suc n) q r = ap (λ (ys : List Process). x ∷ ys) (twice xs n q r)
+
+same : (qs : List Process) (n : ℕ) → slice_set qs n (slice_index_or qs n nobody) ≡ qs
+same [] n = refl
+same (x ∷ xs) zero = refl
+same (x ∷ xs) (suc n) = ap (λ (ys : List Process). x ∷ ys) (same xs n)
+
+pub with_here : (s : Plain) (p : ℕ) (q : Process) (t : Run) → (process_at s p).running ≡ Some t → process_at (with_process s p q) p ≡ q
+with_here s zero q t e = absurd (none-some t e)
+with_here s (suc n) q t e = here s.processes n q t e
+
+with_twice : (s : Plain) (p : ℕ) (q r : Process) → with_process (with_process s p q) p r ≡ with_process s p r
+with_twice s zero q r = refl
+with_twice s (suc n) q r = ap (λ (qs : List Process). record s { processes = qs }) (twice s.processes n q r)
+
+with_same : (s : Plain) (p : ℕ) → with_process s p (process_at s p) ≡ s
+with_same s zero = refl
+with_same s (suc n) = ap (λ (qs : List Process). record s { processes = qs }) (same s.processes n)
+
+with_versions : (s : Plain) (p : ℕ) (q : Process) → (with_process s p q).versions ≡ s.versions
+with_versions s zero q = refl
+with_versions s (suc n) q = refl
+
+-- the state in which process p does this
+abbrev pub doing : Plain → ℕ → Run → Plain
+doing s p t = with_process s p (record (process_at s p) { running = Some t })
+
+doing_same : (s : Plain) (p : ℕ) (t : Run) → (process_at s p).running ≡ Some t → doing s p t ≡ s
+doing_same s p t e =
+    ap (λ (o : Option Run). with_process s p (record (process_at s p) { running = o })) (sym e) ∙ with_same s p
+
+doing_at : (s : Plain) (p : ℕ) (t u : Run) → (process_at s p).running ≡ Some t → process_at (doing s p u) p ≡ record (process_at s p) { running = Some u }
+doing_at s p t u e = with_here s p (record (process_at s p) { running = Some u }) t e
+
+doing_moved : (code : List ModuleTree) (s : Plain) (p : ℕ) (t u : Run) → (process_at s p).running ≡ Some t
+    → moved_in code (doing s p u) p u ≡ doing s p (moved code s.versions u)
+doing_moved code s p t u e =
+    ap (λ (q : Process). with_process (doing s p u) p (record q { running = Some (moved code (doing s p u).versions u) })) (doing_at s p t u e)
+    ∙ (ap (λ (vs : List (List ℕ × ℕ)). with_process (doing s p u) p (record (process_at s p) { running = Some (moved code vs u) }))
+    (with_versions s p (record (process_at s p) { running = Some u }))
+    ∙ with_twice s p (record (process_at s p) { running = Some u }) (record (process_at s p) { running = Some (moved code s.versions u) }))
+
+if_move : (b : Bool) (x : Plain) → b ≡ true → (if b then Some x else None) ≡ Some x
+if_move true x h = refl
+if_move false x h = cc
+
+one_step : (code : List ModuleTree) (s : Plain) (p : ℕ) (t u : Run) → (process_at s p).running ≡ Some t → is_move (next u) ≡ true
+    → step code (doing s p u) (move p) ≡ Some (doing s p (moved code s.versions u))
+one_step code s p t u e h =
+    ap (λ (o : Option Run). option_and_then (λ (x : Run). if is_move (next x) then Some (moved_in code (doing s p u) p x) else None) o)
+    (ap (λ (q : Process). q.running) (doing_at s p t u e))
+    ∙ (if_move (is_move (next u)) (moved_in code (doing s p u) p u) h
+    ∙ ap (λ (x : Plain). Some x) (doing_moved code s p t u e))
+
+replicate_more : (n : ℕ) (l : Label) → replicate (suc n) l ≡ replicate n l ++ l ∷ []
+replicate_more zero l = refl
+replicate_more (suc n) l = ap (λ (ls : List Label). l ∷ ls) (replicate_more n l)
+
+-- so many pure moves of a process
+pub moves_are_steps : (code : List ModuleTree) (s : Plain) (p : ℕ) (t : Run) (n : ℕ) → (process_at s p).running ≡ Some t
+    → ((i : ℕ) → i < n → is_move (next (after_moves code s.versions i t)) ≡ true)
+    → steps code s (replicate n (move p)) ≡ Some (doing s p (after_moves code s.versions n t))
+moves_are_steps code s p t zero e h = ap (λ (x : Plain). Some x) (sym (doing_same s p t e))
+moves_are_steps code s p t (suc n) e h =
+    let before = moves_are_steps code s p t n e (λ i lt. h i (omega arith)) in
+    let last : step code (doing s p (after_moves code s.versions n t)) (move p) ≡ Some (doing s p (after_moves code s.versions (suc n) t))
+    = one_step code s p t (after_moves code s.versions n t) e (h n (omega arith)) in
+    ap (steps code s) (replicate_more n (move p))
+    ∙ (steps_append code s (doing s p (after_moves code s.versions n t)) (replicate n (move p)) (move p ∷ []) before
+    ∙ ap (λ (o : Option Plain). option_and_then (λ (u : Plain). steps code u []) o) last)
+
+-- where a slice doesn't end, a pure move is next
+next_goes : (h : Handout) (meta : Bool) (i : ℕ) (x : Next) → at_next h meta i x ≡ None → is_move x ≡ true
+next_goes h meta i (acts k) e = absurd (cc)
+next_goes h meta i (begins m l) e = refl
+next_goes h meta i pure e = refl
+
+not_left : (b : Bool) (o : Option SliceEnd) → (if b then Some leaves else o) ≡ None → o ≡ None
+not_left true o e = absurd (cc)
+not_left false o e = e
+
+pub goes_move : (h : Handout) (meta : Bool) (i : ℕ) (t : Run) → end_at h meta i t ≡ None → is_move (next t) ≡ true
+goes_move h meta i t e = next_goes h meta i (next t) (not_left (meta && not (has_body h.interpreted t)) (at_next h meta i (next t)) e)
+
+-- what is known once process p, which did t, made n moves
+abbrev pub ran : Known → ℕ → Run → ℕ → ℕ → Known
+ran k p t n w = record k {
+  facts = record (with_debugged k.facts p (record (debugged_at k.facts p) { out = false; resumed = (debugged_at k.facts p).resumed && nat_eq n 0 })) {
+    plain = doing k.facts.plain p (after_moves k.plan.code k.facts.plain.versions n t);
+    coming = [];
+    weight = w;
+  };
+}
+
+pub ran_noted : (k : Known) (p : ℕ) (t : Run) (n w : ℕ) (end : SliceEnd) → running_at k p ≡ Some t
+    → IsSlice k.plan.code k.facts.plain.versions (debugged_at k.facts p).taken (debugged_at k.facts p).meta t n end
+    → w ≡ k.facts.weight + max 1 (n + 0)
+    → ran k p t n w ≡ coming [] (noted k (entry.Ran p n 0))
+ran_noted k zero t n w end lives slice heavier = absurd (none-some t lives)
+ran_noted k (suc m) t n w end lives slice heavier =
+    rw (
+      heavier,
+      moves_are_steps k.plan.code k.facts.plain (suc m) t n lives
+          (λ i lt. goes_move (debugged_at k.facts (suc m)).taken (debugged_at k.facts (suc m)).meta i (after_moves k.plan.code k.facts.plain.versions i t) (slice.goes i lt)),
+    )
+    refl
+
+-- a slice of what is leased
+pub slice_of : (k new : Known) (p : ℕ) (t : Run) (s : Slice) (w : ℕ) → running_at k p ≡ Some t
+    → MakesSlice k.plan.code k.facts.plain.versions (debugged_at k.facts p) t s
+    → w ≡ k.facts.weight + max 1 (s.moves + 0) → new ≡ ran k p t s.moves w → IsSliceOf k new p s
+slice_of k new p t s w lives made heavier is = record {
+  running = t;
+  lives = lives;
+  end = made.0;
+  slice = made.1;
+  stop = made.2;
+  state = is ∙ ran_noted k p t s.moves w made.0 lives made.1 heavier;
+}
+
+pub some_of : (o : Option Run) → IsSome o → (t : Run) × (o ≡ Some t)
+some_of None h = absurd (cc)
+some_of (Some t) h = (t, refl)
+
+-- the same by what stands at the process's place: what it is before and after, and what is known of it
+placed : (k : Known) (p : ℕ) (q : Process) (d : Debugged) (w : ℕ) → 1 ≤ p
+    → record k {
+      facts = record k.facts {
+        debugged = slice_set k.facts.debugged (p - 1) d;
+        plain = record k.facts.plain { processes = slice_set k.facts.plain.processes (p - 1) q };
+        coming = [];
+        weight = w;
+      };
+    }
+    ≡ record k { facts = record (with_debugged k.facts p d) { plain = with_process k.facts.plain p q; coming = []; weight = w } }
+placed k zero q d w some = absurd (omega arith)
+placed k (suc n) q d w some = let e : suc n - 1 ≡ n = omega arith in rw e refl
+
+pub slice_at : (k new : Known) (p : ℕ) (t : Run) (s : Slice) (w : ℕ) (code : List ModuleTree) (versions : List (List ℕ × ℕ)) (q r : Process) (d e : Debugged)
+    → 1 ≤ p → process_at k.facts.plain p ≡ q → debugged_at k.facts p ≡ d → code ≡ k.plan.code → versions ≡ k.facts.plain.versions
+    → running_at k p ≡ Some t → MakesSlice code versions d t s
+    → r ≡ record q { running = Some (after_moves code versions s.moves t) }
+    → e ≡ record d { out = false; resumed = d.resumed && nat_eq s.moves 0 }
+    → w ≡ k.facts.weight + max 1 (s.moves + 0)
+    → new ≡ record k {
+      facts = record k.facts {
+        debugged = slice_set k.facts.debugged (p - 1) e;
+        plain = record k.facts.plain { processes = slice_set k.facts.plain.processes (p - 1) r };
+        coming = [];
+        weight = w;
+      };
+    }
+    → IsSliceOf k new p s
+slice_at k new p t s w code versions q r d e some live known codes_ versions_ lives made process debuggee heavier is =
+    slice_of k new p t s w lives (rw (← codes_, ← versions_, known) made) heavier
+    (is ∙ (placed k p r e w some ∙ rw (process, debuggee, live, known, codes_, versions_) refl))

@@ -1,0 +1,6 @@
+pub mod Known
+pub mod Turns
+pub mod Plans
+pub mod Worlds
+pub mod Served
+pub mod Outcomes

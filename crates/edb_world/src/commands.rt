@@ -1,0 +1,276 @@
+//! The console's commands: which is next, and what it does.
+
+ghost use Rattle.std.specs.Prelude.{◌≡◌, ◌<◌, ◌≤◌, ◌+◌, ◌^◌, true, length, None, IfOk, OnOk};
+ghost use Rattle.edb_breaks.specs.Table.{row_at};
+ghost use Rattle.edb_lang.specs.Terms.{elements};
+ghost use Rattle.edb_event.specs.declared.call.Call.TheVariants as call;
+ghost use Rattle.edb_event.specs.declared.call.Word.TheVariants as word;
+ghost use Rattle.edb_event.specs.declared.entry.Entry.TheVariants as entry;
+ghost use Rattle.edb_event.specs.declared.reply.Reply.TheVariants as reply;
+ghost use Rattle.edb_rules.specs.Replies as rules;
+ghost use Rattle.edb_rules.specs.Replies.{next_call, is_enabled, has_status, is_served, process_of, refused, reply_to};
+ghost use Rattle.edb_world.specs.Known.{noted, command_entry};
+ghost use Rattle.edb_world.specs.Served.{IsCounted, counted, served_known, with_newborn};
+
+use crate::debuggee::Debuggee;
+use crate::live::Live;
+use crate::state::State;
+use edb_eval::Process;
+use edb_event::{Call, Entry, ProcStatus, Reply, Word};
+use edb_lang::{Name, Node, Term};
+use std::alloc::{AllocError, Global};
+
+/// The most processes that are ever made.
+pub(crate) const MOST_PROCESSES: usize = 65_536;
+
+/// A command about this process.
+fn about(call: Call, pid: u32) -> Call
+    ensures { result ≡ rules.about call pid }
+{
+    match call {
+        Call::Ia { .. } => Call::Ia { pid },
+        Call::Detach { .. } => Call::Detach { pid },
+        Call::Step { .. } => Call::Step { pid },
+        Call::Next { .. } => Call::Next { pid },
+        Call::Finish { .. } => Call::Finish { pid },
+        Call::Halt { .. } => Call::Halt { pid },
+        Call::Continue { .. } => Call::Continue { pid },
+        Call::Bindings { .. } => Call::Bindings { pid },
+        Call::Frames { .. } => Call::Frames { pid },
+        Call::Await { status, .. } => Call::Await { pid, status },
+        other => other,
+    }
+}
+
+/// The elements of a list term, up to its end.
+fn elements_of(alloc: Global, list: &Term) -> Result<Vec<Term>, AllocError>
+    ensures { IfOk result (λ items. items.items ≡ elements list.now) }
+{
+    let mut items = Vec::new(alloc);
+    let mut at = list;
+    while let Node::List(cell) = &at.node {
+        items.push(cell.head.copy(alloc)?)?;
+        at = &cell.tail;
+    }
+    Ok(items)
+}
+
+impl<'a> State<'a> {
+    /// The process that a word names; 0 where it names none.
+    fn process_of(&self, word: &Word) -> u32
+        ensures { result ≡ process_of self.now.facts word.now }
+    {
+        match word {
+            Word::Absent => 0,
+            Word::Number(pid) => *pid,
+            Word::Own(place) => self.own_process(*place),
+            Word::Named(_) => 0,
+            Word::Last => self.last,
+        }
+    }
+
+    /// The process of the console's own start with this number, counted from 1; 0 where there is none.
+    fn own_process(&self, place: u32) -> u32
+        ensures { result ≡ process_of self.now.facts (word.Own place) }
+    {
+        if place == 0 {
+            return 0;
+        }
+        match self.own.get((place - 1) as usize) {
+            Some(pid) => *pid,
+            None => 0,
+        }
+    }
+
+    /// The console's next command, its word found to be a process; none once all were served.
+    pub(crate) fn next_call(&self) -> Result<Option<Call>, AllocError>
+        ensures { IfOk result (λ found. found ≡ next_call self.now.plan self.now.facts) }
+    {
+        match self.commands.get(self.served) {
+            None => Ok(None),
+            Some(command) => {
+                let pid = self.process_of(&command.word);
+                Ok(Some(about(command.call.copy(self.alloc)?, pid)))
+            }
+        }
+    }
+
+    /// Whether a process was made and has this status.
+    fn has_status(&self, pid: u32, status: ProcStatus) -> bool
+        ensures { result ≡ has_status self.now.facts pid status }
+    {
+        self.is_made(pid) && self.status_at(pid) == status
+    }
+
+    /// Whether a command is enabled: an await where its process has the status, and every other one.
+    pub(crate) fn is_enabled(&self, call: &Call) -> bool
+        ensures { result ≡ is_enabled self.now.facts call.now }
+    {
+        match call {
+            Call::Await { pid, status } => self.has_status(*pid, *status),
+            _ => true,
+        }
+    }
+
+    /// Serves an enabled command, or starts its process.
+    pub(crate) fn answer(&mut self, call: Call) -> Result<Entry, AllocError>
+        requires left { self.old.facts.served < length self.old.plan.commands }
+        requires known { is_served call ≡ true }
+        requires enabled { is_enabled self.old.facts call ≡ true }
+        requires fits { self.old.facts.weight + 1 < 2 ^ 32 }
+        ensures entry { IfOk result (λ e. e ≡ command_entry self.old call) }
+        ensures state { IfOk result (λ e. self.new ≡ noted self.old e) }
+    {
+        if self.processes.len() < MOST_PROCESSES {
+            match call {
+                Call::Start { module, name, args } => self.start(module, name, args),
+                other => self.serve(other),
+            }
+        } else {
+            self.serve(call)
+        }
+    }
+
+    /// Starts a process.
+    fn start(&mut self, module: Name, name: Name, args: Term) -> Result<Entry, AllocError>
+        requires left { self.old.facts.served < length self.old.plan.commands }
+        requires few { length self.old.facts.plain.processes < 65536 }
+        requires fits { self.old.facts.weight + 1 < 2 ^ 32 }
+        ensures entry { IfOk result (λ e.
+            e ≡ entry.Start 1 (length self.old.facts.plain.processes + 1) «module» name args) }
+        ensures state { IfOk result (λ e. self.new ≡ noted self.old e) }
+    {
+        let pid = self.processes.len() as u32 + 1;
+        let home = module.copy(self.alloc)?;
+        let function = name.copy(self.alloc)?;
+        let operands = elements_of(self.alloc, &args)?;
+        self.add(Process::open(home, function, operands))?;
+        self.own.push(pid)?;
+        self.count();
+        Ok(Entry::Start {
+            console: 1,
+            pid,
+            module,
+            name,
+            args,
+        })
+    }
+
+    /// Adds a process, of which the debugger knows nothing.
+    fn add(&mut self, process: Process<'a>) -> Result<(), AllocError>
+        ensures { OnOk result (self.new ≡ with_newborn self.old process.entry) }
+    {
+        self.debuggees.reserve(1)?;
+        self.processes.push(Live::newborn(process))?;
+        self.debuggees.push_reserved(Debuggee::unseen(self.alloc));
+        Ok(())
+    }
+
+    /// Counts a command as served.
+    fn count(&mut self)
+        requires left { self.old.facts.served < length self.old.plan.commands }
+        requires fits { self.old.facts.weight + 1 < 2 ^ 32 }
+        ensures state { self.new ≡ counted self.old }
+        ensures is_counted { IsCounted self.new }
+    {
+        self.served += 1;
+        self.weight += 1;
+    }
+
+    /// Serves an enabled command, which isn't a start that is accepted.
+    fn serve(&mut self, call: Call) -> Result<Entry, AllocError>
+        requires left { self.old.facts.served < length self.old.plan.commands }
+        requires fits { self.old.facts.weight + 1 < 2 ^ 32 }
+        ensures entry { IfOk result (λ e. e ≡ entry.Served 1 call (reply_to self.old.plan self.old.facts 1 call)) }
+        ensures state { IfOk result (λ e. self.new ≡ noted self.old e) }
+    {
+        let reply = self.reply(&call)?;
+        let refused = self.refused(&call).is_some();
+        self.count();
+        if refused {
+            return Ok(Entry::Served {
+                console: 1,
+                call,
+                reply,
+            });
+        }
+        self.change(&call)?;
+        Ok(Entry::Served {
+            console: 1,
+            call,
+            reply,
+        })
+    }
+
+    /// Does what a command that isn't refused does, once it is counted.
+    fn change(&mut self, call: &Call) -> Result<(), AllocError>
+        requires allowed { refused self.old.plan self.old.facts 1 call.now ≡ None }
+        requires counted { IsCounted self.old }
+        ensures { OnOk result (self.new ≡ served_known self.old call.now) }
+    {
+        match call {
+            Call::Ii { module } => self.interpret(module),
+            Call::Ib { module, line } => self.break_at(module, *line),
+            Call::Ia { pid } => self.attach(*pid),
+            Call::Continue { pid } => {
+                self.resume(*pid);
+                Ok(())
+            }
+            Call::Await { pid, .. } => {
+                self.last = *pid;
+                Ok(())
+            }
+            _ => Ok(()),
+        }
+    }
+
+    /// Interprets a module.
+    fn interpret(&mut self, module: &Name) -> Result<(), AllocError>
+        ensures { OnOk result (self.new ≡ served_known self.old (call.Ii «module».now)) }
+    {
+        self.server.interpret(self.alloc, module)?;
+        Ok(())
+    }
+
+    /// Makes a breakpoint where there is none.
+    fn break_at(&mut self, module: &Name, line: u32) -> Result<(), AllocError>
+        requires free { row_at «module».now line self.old.facts.server.table ≡ None }
+        requires counted { IsCounted self.old }
+        ensures { OnOk result (self.new ≡ served_known self.old (call.Ib «module».now line)) }
+    {
+        let home = module.copy(self.alloc)?;
+        self.server.break_at(home, line)?;
+        Ok(())
+    }
+
+    /// Attaches the console to a process.
+    fn attach(&mut self, pid: u32) -> Result<(), AllocError>
+        ensures { OnOk result (self.new ≡ served_known self.old (call.Ia pid)) }
+    {
+        self.server.attach(1, pid)?;
+        Ok(())
+    }
+
+    /// Lets a process go on, where it is stopped.
+    fn resume(&mut self, pid: u32)
+        requires made { (1 ≤ pid) × (pid ≤ length self.old.facts.plain.processes) }
+        ensures { self.new ≡ served_known self.old (call.Continue pid) }
+    {
+        self.debuggees[(pid - 1) as usize].stopped = false;
+    }
+
+    /// Answers a command that nothing enables any more.
+    pub(crate) fn answer_quiet(&mut self, call: Call) -> Entry
+        requires left { self.old.facts.served < length self.old.plan.commands }
+        requires fits { self.old.facts.weight + 1 < 2 ^ 32 }
+        ensures entry { result ≡ entry.Served 1 call reply.Quiet }
+        ensures state { self.new ≡ noted self.old result }
+    {
+        self.count();
+        Entry::Served {
+            console: 1,
+            call,
+            reply: Reply::Quiet,
+        }
+    }
+}

@@ -1,0 +1,150 @@
+//! The state of a world: all that the rules of a journal look at.
+
+ghost use Rattle.std.specs.Prelude.{◌≡◌, ◌<◌, ◌≤◌, ◌-◌, ◌^◌, [], None, false, length, MatchBool, IfOk};
+ghost use Rattle.edb_model.specs.Plain.{process_rows, tables_of};
+ghost use Rattle.edb_world.specs.Known.{known_first};
+
+use crate::debuggee::{Debuggee, Trigger};
+use crate::live::Live;
+use crate::server::Interpreter;
+use edb_event::Command;
+use edb_lang::{Bytes, Term};
+use edb_model::{Code, ProcRow, Rows, Tables};
+use std::alloc::{AllocError, Global};
+use std::marker::Model;
+use std::mem;
+
+/// What a session is given, and the facts of its journal so far. Contracts see the two.
+#[derive(Drop)]
+pub(crate) struct State<'a> {
+    pub(crate) alloc: Global,
+    pub(crate) code: &'a Code,
+    pub(crate) commands: &'a [Command],
+    pub(crate) slice: u32,
+    pub(crate) most: u32,
+    pub(crate) processes: Vec<Live<'a>>,
+    pub(crate) output: Bytes,
+    pub(crate) server: Interpreter,
+    pub(crate) debuggees: Vec<Debuggee>,
+    pub(crate) served: usize,
+    pub(crate) own: Vec<u32>,
+    pub(crate) last: u32,
+    pub(crate) turn: u32,
+    pub(crate) owed: Option<Trigger>,
+    pub(crate) weight: u32,
+}
+
+impl<'a> Model for State<'a> {
+    ghost use Rattle.std.specs.Prelude.{◌≡◌, ◌≤◌, [], length};
+    ghost use Rattle.std.specs.Coded.{codes};
+    ghost use Rattle.edb_lang.specs.TermCodes.{coded_datum};
+    ghost use Rattle.edb_lang.specs.SyntaxCodes.{coded_module};
+    ghost use Rattle.edb_model.specs.Lookup.{first_versions};
+    ghost use Rattle.edb_model.specs.RunningCodes.{coded_run};
+    ghost use Rattle.edb_world.specs.Known.{Known};
+
+    ghost Value = { Known };
+
+    ghost coded = { Prim.hlevel (codes, coded_datum, coded_module, coded_run) };
+
+    ghost view = { λ s. record {
+      plan = record { code = s.code.now; commands = s.commands.now; slice = s.slice; most = s.most };
+      facts = record {
+        plain = record { processes = s.processes.items; names = []; signals = []; versions = first_versions s.code.now; clock = 0; output = s.output; references = 0 };
+        server = s.server;
+        debugged = s.debuggees.items;
+        served = s.served;
+        own = s.own.items;
+        last = s.last;
+        turn = s.turn;
+        coming = [];
+        owed = s.owed;
+        weight = s.weight;
+      };
+    } };
+
+    ghost invariant = { λ s. (length s.debuggees.items ≡ length s.processes.items) × (s.server.table.given ≤ s.served) };
+}
+
+impl<'a> State<'a> {
+    /// The state before the first entry; takes no memory.
+    pub(crate) fn new(
+        alloc: Global,
+        code: &'a Code,
+        commands: &'a [Command],
+        slice: u32,
+        most: u32,
+    ) -> State<'a>
+        ensures { result ≡ known_first (record { code = code.now; commands = commands.now; slice = slice; most = most }) }
+    {
+        State {
+            alloc,
+            code,
+            commands,
+            slice,
+            most,
+            processes: Vec::new(alloc),
+            output: Bytes::new(alloc),
+            server: Interpreter::new(alloc),
+            debuggees: Vec::new(alloc),
+            served: 0,
+            own: Vec::new(alloc),
+            last: 0,
+            turn: 0,
+            owed: None,
+            weight: 0,
+        }
+    }
+
+    /// Whether the journal is lighter than the weight at which it is over.
+    pub(crate) fn is_light(&self) -> bool
+        ensures { MatchBool result (self.now.facts.weight < self.now.plan.most) (self.now.plan.most ≤ self.now.facts.weight) }
+    {
+        self.weight < self.most
+    }
+
+    /// The tables that the run leaves; the state keeps neither the output nor the reasons of its processes.
+    pub(crate) fn take_tables(&mut self) -> Result<Tables, AllocError>
+        requires few { length self.old.facts.plain.processes < 2 ^ 32 - 1 }
+        ensures { IfOk result (λ tables. tables ≡ tables_of self.old.facts.plain) }
+    {
+        let processes = take_rows(self.alloc, &mut self.processes)?;
+        Ok(Tables {
+            processes,
+            names: Rows::new(self.alloc),
+            signals: Rows::new(self.alloc),
+            clock: 0,
+            output: mem::replace(&mut self.output, Bytes::new(self.alloc)),
+        })
+    }
+}
+
+/// The rows that show the processes, by number from 1; the processes keep their reasons no longer.
+fn take_rows(alloc: Global, processes: &mut [Live<'_>]) -> Result<Rows<ProcRow>, AllocError>
+    requires few { length processes.old < 2 ^ 32 - 1 }
+    ensures rows { IfOk result (λ rows. rows ≡ process_rows 1 processes.old) }
+    ensures same { length processes.new ≡ length processes.old }
+{
+    let mut rows = Rows::new(alloc);
+    let mut pid = 0u32;
+    for live in processes.iter_mut() {
+        pid += 1;
+        rows.push(process_row(alloc, pid, live.exit.take()))?;
+    }
+    Ok(rows)
+}
+
+/// The row that shows a process.
+fn process_row(alloc: Global, pid: u32, exit: Option<Term>) -> ProcRow
+    ensures { result ≡ record { pid = pid; mailbox = []; links = []; monitors = []; trap = false; deadline = None; exit = exit } }
+{
+    ProcRow {
+        pid,
+        mailbox: Rows::new(alloc),
+        links: Rows::new(alloc),
+        monitors: Rows::new(alloc),
+        trap: false,
+        deadline: None,
+        exit,
+    }
+}
