@@ -73,7 +73,7 @@ impl Breaks {
 
     /// Makes the breakpoint of this serial at a place active, and says whether the place has it; takes no
     /// memory.
-    pub fn enable(&mut self, module: &Name, line: u32, serial: u128) -> bool
+    pub fn enable_serial(&mut self, module: &Name, line: u32, serial: u128) -> bool
         ensures found { result ≡ has_row serial «module».now line self.old }
         ensures table { self.new ≡ with_enabled serial «module».now line self.old }
     {

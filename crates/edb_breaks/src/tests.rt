@@ -91,7 +91,7 @@ fn the_row_of_a_serial_at_its_place_becomes_active(rt: HostRuntime) -> Result<()
             enabled.is_some(),
             "{line} {serial}"
         );
-        let found = breaks.enable(&module, line, serial);
+        let found = breaks.enable_serial(&module, line, serial);
         assert_eq!(rt; found, enabled.is_some(), "{line} {serial}");
         let mut rows = breaks.all()?;
         disable(&mut rows);

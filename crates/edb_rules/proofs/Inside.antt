@@ -26,30 +26,35 @@ use Rattle.edb_rules.proofs.Changed.{with_or, start_same, with_living}
 use Rattle.edb_rules.proofs.Tells.{AreTold, told_step, leave_lives, enter_tells}
 
 -- what the step rests on: each process is listed, and what ends a slice is of one that lives
-record Rests (f : Facts) : Type 0 where
+pub record Rests (f : Facts) : Type 0 where
   pub agree : length f.debugged ≡ length f.plain.processes
   pub told : AreTold f.plain f.coming
 
-rests_step : (plan : Plan) (f : Facts) (e : Entry) → Rests f → May plan f e → Rests (note plan f e)
+pub rests_step : (plan : Plan) (f : Facts) (e : Entry) → Rests f → May plan f e → Rests (note plan f e)
 rests_step plan f e rests may = record { agree = agree_step plan f e rests.agree may; told = told_step plan f e rests.told may }
 
--- what a process's meta is where that of one changes
-meta_same : (f g : Facts) (q : ℕ) (d : Debugged) (p : ℕ) (t : Bool) → nat_eq p q ≡ t → debugged_at g q ≡ d
+-- what is so of a process where what is known of one changes
+part_same : (h : Debugged → Bool) (f g : Facts) (q : ℕ) (d : Debugged) (p : ℕ) (t : Bool) → nat_eq p q ≡ t → h (debugged_at g q) ≡ h d
     → ((q ≡ p) × (debugged_at g p ≡ d)) ⊎ (debugged_at g p ≡ debugged_at f p)
-    → (debugged_at g p).meta ≡ (if t then d.meta else (debugged_at f p).meta)
-meta_same f g q d p true is here or = ap (λ (n : ℕ). (debugged_at g n).meta) (eqb-true p q is) ∙ ap (λ (x : Debugged). x.meta) here
-meta_same f g q d p false is here (inl both) = absurd (both_ways _ is (eq-eqb p q (sym both.0)))
-meta_same f g q d p false is here (inr same) = ap (λ (x : Debugged). x.meta) same
+    → h (debugged_at g p) ≡ (if t then h d else h (debugged_at f p))
+part_same h f g q d p true is here or = ap (λ (n : ℕ). h (debugged_at g n)) (eqb-true p q is) ∙ here
+part_same h f g q d p false is here (inl both) = absurd (both_ways _ is (eq-eqb p q (sym both.0)))
+part_same h f g q d p false is here (inr same) = ap h same
+
+pub part_with : (h : Debugged → Bool) (f g : Facts) (q : ℕ) (d : Debugged) (p : ℕ) → h (debugged_at g q) ≡ h d
+    → ((q ≡ p) × (debugged_at g p ≡ d)) ⊎ (debugged_at g p ≡ debugged_at f p)
+    → h (debugged_at g p) ≡ (if nat_eq p q then h d else h (debugged_at f p))
+part_with h f g q d p here or = part_same h f g q d p (nat_eq p q) refl here or
 
 meta_with : (f g : Facts) (q : ℕ) (d : Debugged) (p : ℕ) → debugged_at g q ≡ d → ((q ≡ p) × (debugged_at g p ≡ d)) ⊎ (debugged_at g p ≡ debugged_at f p)
     → (debugged_at g p).meta ≡ (if nat_eq p q then d.meta else (debugged_at f p).meta)
-meta_with f g q d p here or = meta_same f g q d p (nat_eq p q) refl here or
+meta_with f g q d p here or = part_with (λ x. x.meta) f g q d p (ap (λ (x : Debugged). x.meta) here) or
 
-or_is : (t b : Bool) → (if t then true else b) ≡ (t || b)
+pub or_is : (t b : Bool) → (if t then true else b) ≡ (t || b)
 or_is true b = refl
 or_is false b = refl
 
-and_is : (t b : Bool) → (if t then false else b) ≡ (not t && b)
+pub and_is : (t b : Bool) → (if t then false else b) ≡ (not t && b)
 and_is true b = refl
 and_is false b = refl
 

@@ -23,3 +23,8 @@ pub mod Tells
 pub mod Taken
 pub mod Inside
 pub mod OneRun
+pub mod StoppedBy
+pub mod Own
+pub mod Rows
+pub mod Hands
+pub mod Triggers

@@ -25,16 +25,16 @@ use Rattle.edb_rules.proofs.Between.{folded}
 use Rattle.edb_rules.proofs.Halted.{is_short_reply, short_answer}
 
 -- what is known of processes is none of the server's
-with_server : (f : Facts) (p : ℕ) (d : Debugged) → (with_debugged f p d).server ≡ f.server
+pub with_server : (f : Facts) (p : ℕ) (d : Debugged) → (with_debugged f p d).server ≡ f.server
 with_server f zero d = refl
 with_server f (suc n) d = refl
 
-did_server : (plan : Plan) (f : Facts) (p : ℕ) (k : ActKind) (v bytes : List ℕ) → (note plan f (entry.Did p k v bytes)).server ≡ f.server
+pub did_server : (plan : Plan) (f : Facts) (p : ℕ) (k : ActKind) (v bytes : List ℕ) → (note plan f (entry.Did p k v bytes)).server ≡ f.server
 did_server plan f p kind.End v bytes = with_server f p _
 did_server plan f p _ v bytes = refl
 
 -- a reply leaves what its command leaves
-reply_part : {A : Type 0} (h : Facts → A) (f : Facts) (c : ℕ) (x : Call) (r : Reply) → h (served f c x) ≡ h f → h (after_reply f c x r) ≡ h f
+pub reply_part : {A : Type 0} (h : Facts → A) (f : Facts) (c : ℕ) (x : Call) (r : Reply) → h (served f c x) ≡ h f → h (after_reply f c x r) ≡ h f
 reply_part h f c x (reply.Refused r) same = refl
 reply_part h f c x reply.Quiet same = refl
 reply_part h f c x _ same = same

@@ -30,7 +30,7 @@ use Rattle.edb_rules.specs.Begins.{Begins, IsOver}
 use Rattle.edb_rules.proofs.Known.{with_each}
 
 -- At most one lease is out.
-abbrev IsOneOut : Facts → Type 0
+abbrev pub IsOneOut : Facts → Type 0
 IsOneOut f = (p q : ℕ) → (debugged_at f p).out ≡ true → (debugged_at f q).out ≡ true → p ≡ q
 
 -- no lease is out after an entry that wasn't before it
@@ -82,7 +82,7 @@ did_none_new plan f p _ v bytes q e = e
 fewer : (f g : Facts) → IsOneOut f → ((q : ℕ) → (debugged_at g q).out ≡ true → (debugged_at f q).out ≡ true) → IsOneOut g
 fewer f g a none p q x y = a p q (none p x) (none q y)
 
-out_step : (plan : Plan) (f : Facts) (e : Entry) → IsOneOut f → May plan f e → MayAlone plan f e → IsOneOut (note plan f e)
+pub out_step : (plan : Plan) (f : Facts) (e : Entry) → IsOneOut f → May plan f e → MayAlone plan f e → IsOneOut (note plan f e)
 out_step plan f (entry.Start c p m n args) a may alone = fewer f (note plan f (entry.Start c p m n args)) a (start_none_new f (note plan f (entry.Start c p m n args)) refl)
 out_step plan f (entry.Load c m v) a may alone = absurd may.rule
 out_step plan f (entry.Lease p b) a may alone = λ q r x y. only f p _ alone q x ∙ sym (only f p _ alone r y)

@@ -75,7 +75,7 @@ set_here [] n d out = absurd (both_ways false refl out)
 set_here (x ∷ xs) zero d out = refl
 set_here (x ∷ xs) (suc n) d out = set_here xs n d out
 
-with_here : (f : Facts) (p : ℕ) (d : Debugged) → (debugged_at f p).out ≡ true → debugged_at (with_debugged f p d) p ≡ d
+pub with_here : (f : Facts) (p : ℕ) (d : Debugged) → (debugged_at f p).out ≡ true → debugged_at (with_debugged f p d) p ≡ d
 with_here f zero d out = absurd (both_ways false refl out)
 with_here f (suc n) d out = set_here f.debugged n d out
 
@@ -153,6 +153,15 @@ keeps_step plan f (entry.Trigger p m l s t applied) a may =
     record { told = a.told; fresh = none_fresh (note plan f (entry.Trigger p m l s t applied)) may.rule.call.whole }
 keeps_step plan f (entry.Served c x r) a may =
     record { told = reply_told f c x r a.told; fresh = none_fresh (note plan f (entry.Served c x r)) (reply_coming f c x r ∙ may.rule.call.whole) }
+
+-- a Stop is the last that is to come
+pub last_stop : (plan : Plan) (journal : List Entry) (k p : ℕ) (m : List ℕ) (l n : ℕ) (by : Cause) → Legal plan journal
+    → slice_get journal k ≡ Some (entry.Stop p m l n by) → (facts plan (take k journal)).coming ≡ entry.Stop p m l n by ∷ []
+last_stop plan journal k p m l n by legal at =
+    let f = facts plan (take k journal) in
+    let may = may_at plan journal k (entry.Stop p m l n by) legal at in
+    let keeps = kept_at plan Keeps (keeps_step plan) (record { told = All-nil IsTold; fresh = tt }) journal k legal in
+    may.rule.1 ∙ ap (λ (es : List Entry). entry.Stop p m l n by ∷ es) (stop_fresh f p m l n by may.rule.0 may.rule.1 keeps.fresh).0
 
 moved_here : (plan : Plan) (f : Facts) (p : ℕ) (m : List ℕ) (l n : ℕ) (by : Cause) → Keeps f → May plan f (entry.Stop p m l n by) → (debugged_at f p).resumed ≡ false
 moved_here plan f p m l n by a may = (stop_fresh f p m l n by may.rule.0 may.rule.1 a.fresh).2

@@ -59,7 +59,7 @@ pub coming_is : (plan : Plan) (f : Facts) (p n : ℕ) (t : Run) (end : SliceEnd)
 coming_is plan f p n t end lives ends = rw lives (rw ends refl)
 
 -- Only a Lease changes what a process took in.
-with_taken : (f : Facts) (p : ℕ) (d : Debugged) → d.taken ≡ (debugged_at f p).taken
+pub with_taken : (f : Facts) (p : ℕ) (d : Debugged) → d.taken ≡ (debugged_at f p).taken
     → (q : ℕ) → (debugged_at (with_debugged f p d) q).taken ≡ (debugged_at f q).taken
 with_taken f p d is q = with_same Handout (λ (x : Debugged). x.taken) f p d is q
 

@@ -14,3 +14,5 @@ pub mod Made
 pub mod Tells
 pub mod Inside
 pub mod PlainRuns
+pub mod Halts
+pub mod Own

@@ -1,8 +1,10 @@
 //! Laws of legal journals. Each is a function that does nothing and whose contract is the law.
 
-ghost use Rattle.std.specs.Prelude.{◌≡◌, ◌⊎◌, ◌<◌, ◌≤◌, ℕ, false, List, Option, Some, length, slice_get, take};
+ghost use Rattle.std.specs.Prelude.{◌≡◌, ◌⊎◌, ◌<◌, ◌≤◌, ◌+◌, ℕ, true, false, List, Option, None, Some, length, slice_get, take};
+ghost use Rattle.edb_lang.specs.declared.small.Action.TheVariants as action;
 ghost use Rattle.edb_event.specs.declared.call.Call.{Call};
 ghost use Rattle.edb_event.specs.declared.entry.Cause.{Cause};
+ghost use Rattle.edb_event.specs.declared.entry.Cause.TheVariants as cause;
 ghost use Rattle.edb_event.specs.declared.entry.Entry.{Entry};
 ghost use Rattle.edb_event.specs.declared.entry.Entry.TheVariants as entry;
 ghost use Rattle.edb_event.specs.declared.reply.Reply.{Reply};
@@ -23,6 +25,8 @@ ghost use Rattle.edb_rules.specs.Taken.{GoesBy, TookIn, KeepsBudget};
 ghost use Rattle.edb_rules.specs.Made.{table_of, modules_of, consoles_of};
 ghost use Rattle.edb_rules.specs.Tells.{TellsLevel, TellsCall};
 ghost use Rattle.edb_rules.specs.Inside.{is_inside_by};
+ghost use Rattle.edb_rules.specs.Halts.{is_stopped_by};
+ghost use Rattle.edb_rules.specs.Own.{starts_of, last_of};
 ghost use Rattle.edb_event.specs.Weights.{weight};
 
 /// A legal journal without the debugger's entries is a plain run of the modules, to the plain state that
@@ -86,6 +90,12 @@ pub fn stopped_processes_have_no_turn()
     ensures { (plan : Plan) (journal : List Entry) (k : ℕ) (p : ℕ) (m : List ℕ) (l : ℕ) (n : ℕ) (by : Cause) (j : ℕ) (e : Entry) → Legal plan journal → slice_get journal k ≡ Some (entry.Stop p m l n by) → k < j → slice_get journal j ≡ Some e → IsTurnOf p e → StandsBetween (Resumes p) journal k j }
 {}
 
+/// Directly behind each Stop by a breakpoint in a legal one-handed journal stands its Trigger, of the same process, module,
+/// line and serial, with the action `enable`, and it is applied; or the journal ends with the Stop.
+pub fn a_stop_is_followed_by_its_trigger()
+    ensures { (plan : Plan) (journal : List Entry) (k : ℕ) (p : ℕ) (m : List ℕ) (l : ℕ) (n : ℕ) (serial : ℕ) → Legal plan journal → IsOneHanded plan journal → slice_get journal k ≡ Some (entry.Stop p m l n (cause.Break serial)) → slice_get journal (k + 1) ≡ None ⊎ slice_get journal (k + 1) ≡ Some (entry.Trigger p m l serial action.Enable true) }
+{}
+
 /// Between two stops of a process in a legal journal stands a slice of it with a move at least, which may be the slice
 /// that the second stop ends.
 pub fn a_move_stands_between_stops()
@@ -127,6 +137,19 @@ pub fn journals_weigh_so()
 /// journal is an Enter.
 pub fn a_process_is_interpreted_between()
     ensures { (plan : Plan) (journal : List Entry) (p : ℕ) → Legal plan journal → (debugged_at (facts plan journal) p).meta ≡ is_inside_by p journal }
+{}
+
+/// A process is stopped after a legal journal exactly where the last in the journal of a Stop of it, a `continue` of it
+/// that was answered `ok`, and its end is a Stop.
+pub fn a_process_is_stopped_between()
+    ensures { (plan : Plan) (journal : List Entry) (p : ℕ) → Legal plan journal → (debugged_at (facts plan journal) p).stopped ≡ is_stopped_by p journal }
+{}
+
+/// The processes by which the console's commands are understood are told by a legal journal's entries: the console's own
+/// are those that its starts made, in order, and the last awaited is that of its last await that was answered by a status.
+pub fn own_starts_and_last_awaits()
+    ensures own { (plan : Plan) (journal : List Entry) → Legal plan journal → (facts plan journal).own ≡ starts_of journal }
+    ensures last { (plan : Plan) (journal : List Entry) → Legal plan journal → (facts plan journal).last ≡ last_of journal }
 {}
 
 /// What a console does doesn't change what a process does: of two legal journals of the same modules, whatever their

@@ -5,6 +5,8 @@ use Rattle.edb_rules.specs.Plans.{Plan}
 use Rattle.edb_rules.specs.Notes.{facts}
 use Rattle.edb_rules.proofs.Journals.{erased}
 use Rattle.edb_rules.proofs.Stops.{stop_due, none_passed}
+use Rattle.edb_rules.proofs.Places.{stands_before}
+use Rattle.edb_rules.proofs.Resumed.{moved_since}
 use Rattle.edb_rules.proofs.Commanded.{in_order, at_place, served_is, all_served, reply_is}
 use Rattle.edb_world.specs.declared.world.Outcome.{Outcome}
 use Rattle.edb_world.specs.Outcomes.{IsOutcome}
@@ -18,7 +20,11 @@ is_run plan left is = record {
   state = (facts plan left.journal.entries).plain;
   plain = erased plan left.journal.entries is.legal;
   tables = is.tables;
-  stops = λ k p m l n by at. stop_due plan left.journal.entries k p m l n by is.legal at;
+  stops = λ k p m l n by at. (
+    stop_due plan left.journal.entries k p m l n by is.legal at,
+    stands_before plan left.journal.entries k p m l n by is.legal at,
+    moved_since plan left.journal.entries k p m l n by is.legal at,
+  );
   passed = λ k p n c at. none_passed plan left.journal.entries k p n c is.legal at;
   commands = λ k e c x at command. (
     (in_order plan left.journal.entries k e c x is.legal at command).0,

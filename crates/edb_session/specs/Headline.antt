@@ -1,6 +1,6 @@
 -- What a session's journal says of stops, commands and replies.
 
-use Rattle.std.specs.Prelude.{◌≡◌, ℕ, ◌<◌, List, length, Some, slice_get, take}
+use Rattle.std.specs.Prelude.{◌≡◌, ℕ, false, List, length, Some, slice_get, take}
 use Rattle.edb_event.specs.declared.call.Call.{Call}
 use Rattle.edb_event.specs.declared.entry.Cause.{Cause}
 use Rattle.edb_event.specs.declared.entry.Entry.{Entry}
@@ -10,14 +10,16 @@ use Rattle.edb_rules.specs.Plans.{Plan}
 use Rattle.edb_rules.specs.Facts.{debugged_at}
 use Rattle.edb_rules.specs.Notes.{facts}
 use Rattle.edb_rules.specs.Legal.{IsAnswer, IsDone}
-use Rattle.edb_rules.specs.Stops.{WasDue, PassesNone}
+use Rattle.edb_rules.specs.Stops.{WasDue, StandsBefore, PassesNone}
 use Rattle.edb_rules.specs.Commands.{command_of, commands_in, IsCommandAt}
 
--- Each stop stands where a beginning was due, by what its process had last taken in.
+-- Each stop stands where a beginning was due, by what its process had last taken in: the process is about to begin
+-- the expression at that module and line, and made a move since it stopped before.
 abbrev pub StopsWereDue : Plan → List Entry → Type 0
 StopsWereDue plan journal =
     (k p : ℕ) (m : List ℕ) (l n : ℕ) (by : Cause) → slice_get journal k ≡ Some (entry.Stop p m l n by)
-    → WasDue (debugged_at (facts plan (take k journal)) p).taken m l by
+    → WasDue (debugged_at (facts plan (take k journal)) p).taken m l by × StandsBefore (facts plan (take k journal)).plain p m l
+    × ((debugged_at (facts plan (take k journal)) p).resumed ≡ false)
 
 -- No move passes a beginning that is due.
 abbrev pub NoneWasPassed : Plan → List Entry → Type 0

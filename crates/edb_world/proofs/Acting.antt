@@ -1,17 +1,15 @@
 -- The entry of an act of the process that has the turn may stand.
 
-use Rattle.std.proofs.Common.{◌≡◌, ℕ, ◌+◌, Bool, true, false, List, [], ◌∷◌, ◌++◌, Option, Some, refl, sym, ◌∙◌, ap, subst, zero, suc}
-use Rattle.std.proofs.lemmas.Bool.{both_ways}
+use Rattle.std.proofs.Common.{◌≡◌, ℕ, [], ◌∷◌, ◌++◌, Some, refl, sym, ◌∙◌, ap, subst}
 use Rattle.edb_model.specs.declared.act.ActKind.{ActKind}
 use Rattle.edb_model.specs.declared.act.ActKind.TheVariants as kind
 use Rattle.edb_model.specs.Running.{Run}
 use Rattle.edb_model.specs.Move.{acts, next, redex, answered}
 use Rattle.edb_model.specs.Acts.{displayed, true_term, ended, exit_reason}
-use Rattle.edb_model.specs.Plain.{Plain, process_at, with_process}
+use Rattle.edb_model.specs.Plain.{process_at, with_process}
 use Rattle.edb_event.specs.declared.entry.Entry.{Entry}
-use Rattle.edb_event.specs.declared.entry.Entry.TheVariants as entry
 use Rattle.edb_rules.specs.Plans.{Plan}
-use Rattle.edb_rules.specs.Facts.{Facts, debugged_at}
+use Rattle.edb_rules.specs.Facts.{Facts}
 use Rattle.edb_rules.specs.Notes.{note}
 use Rattle.edb_event.specs.Ranges.{IsEntry}
 use Rattle.edb_rules.specs.Legal.{MayBegin, NoTrigger, NoCommand, NoLease, HasTurn, May}

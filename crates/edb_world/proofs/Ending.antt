@@ -1,26 +1,23 @@
 -- The entries that end a slice: each may stand where it is to come, and what it leaves.
 
-use Rattle.std.proofs.Common.{◌≡◌, ℕ, zero, suc, ◌+◌, ◌<◌, ◌≤◌, Bool, true, false, List, [], ◌∷◌, ◌++◌, Option, None, Some, IsSome, slice_index_or, refl, sym, ◌∙◌, ap, subst, arith}
+use Rattle.std.proofs.Common.{◌≡◌, ℕ, zero, suc, ◌+◌, true, false, List, [], ◌∷◌, ◌++◌, Option, None, Some, IsSome, slice_index_or, refl, sym, ◌∙◌, ap, subst}
 use Rattle.std.proofs.lemmas.Bool.{both_ways}
 use Rattle.edb_lang.specs.declared.small.Break.{Break}
-use Rattle.edb_model.specs.Running.{Info, Run}
-use Rattle.edb_model.specs.Innermost.{innermost}
-use Rattle.edb_model.specs.Plain.{Plain, process_at}
-use Rattle.edb_event.specs.declared.entry.Cause.{Cause}
+use Rattle.edb_model.specs.Running.{Run}
 use Rattle.edb_event.specs.declared.entry.Entry.{Entry}
 use Rattle.edb_event.specs.declared.entry.Entry.TheVariants as entry
 use Rattle.edb_event.specs.Ranges.{IsEntry}
 use Rattle.edb_event.specs.Weights.{weight, weight_of}
 use Rattle.edb_rules.specs.Plans.{Plan}
 use Rattle.edb_rules.specs.Facts.{Debugged, Facts, unseen, debugged_at, with_debugged}
-use Rattle.edb_rules.specs.Notes.{note, facts, enter_entry, stop_entry}
-use Rattle.edb_rules.specs.Legal.{May, MayAlone, MayEnd, Legal}
+use Rattle.edb_rules.specs.Notes.{note, enter_entry, stop_entry}
+use Rattle.edb_rules.specs.Legal.{May, MayAlone, MayEnd}
 use Rattle.edb_rules.proofs.OneJournal.{none_new}
 use Rattle.edb_world.specs.declared.world.World.{World}
-use Rattle.edb_world.specs.Known.{Known, noted, coming, running_at}
+use Rattle.edb_world.specs.Known.{Known, coming}
 use Rattle.edb_world.specs.Turns.{IsEndNoted}
 use Rattle.edb_world.specs.Plans.{IsPlan}
-use Rattle.edb_world.specs.Worlds.{IsKept, Keeps, Awaits, HasNext, IsAfterEnd}
+use Rattle.edb_world.specs.Worlds.{IsKept, Awaits, HasNext, IsAfterEnd}
 use Rattle.edb_world.proofs.Growing.{grown}
 use Rattle.edb_world.proofs.Turning.{in_range, weighed}
 

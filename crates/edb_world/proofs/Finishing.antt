@@ -1,15 +1,15 @@
 -- What a world leaves that is over.
 
-use Rattle.std.proofs.Common.{◌≡◌, ℕ, Bool, true, false, not, List, refl, sym, ◌∙◌, ap, subst}
+use Rattle.std.proofs.Common.{◌≡◌, Bool, true, false, not, List, sym, ◌∙◌, ap, subst}
 use Rattle.edb_event.specs.declared.entry.Entry.{Entry}
-use Rattle.edb_model.specs.Plain.{Plain, tables_of}
+use Rattle.edb_model.specs.Plain.{tables_of}
 use Rattle.edb_rules.specs.Plans.{Plan}
 use Rattle.edb_rules.specs.Facts.{Facts}
 use Rattle.edb_rules.specs.Notes.{facts}
 use Rattle.edb_rules.specs.Legal.{Legal, IsOneHanded, IsDone, IsLimit}
 use Rattle.edb_world.specs.declared.world.World.{World}
 use Rattle.edb_world.specs.declared.world.Outcome.{Outcome}
-use Rattle.edb_world.specs.Worlds.{IsGoing, Rests, IsStopped}
+use Rattle.edb_world.specs.Worlds.{IsGoing, IsStopped}
 use Rattle.edb_world.specs.Outcomes.{IsOverBy, IsOutcome}
 
 pub stopped_going : (old new : World) (rests : Bool) → IsStopped old new rests → IsGoing new

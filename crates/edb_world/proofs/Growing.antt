@@ -1,19 +1,15 @@
 -- A journal that grows by an entry of its turn stays legal and of one hand, and has the facts of one entry more.
 
-use Rattle.std.proofs.Common.{◌≡◌, ℕ, ◌+◌, ◌<◌, ◌≤◌, Bool, true, false, List, [], ◌∷◌, ◌++◌, Option, Some, refl, sym, ◌∙◌, ap, subst, arith, max}
+use Rattle.std.proofs.Common.{◌≡◌, ℕ, ◌<◌, ◌≤◌, Bool, true, false, List, [], ◌∷◌, ◌++◌, refl, sym, ◌∙◌, ap, subst, arith}
 use Rattle.std.proofs.lemmas.Bool.{both_ways}
-use Rattle.edb_model.specs.declared.act.ActKind.TheVariants as kind
 use Rattle.edb_event.specs.declared.entry.Entry.{Entry}
 use Rattle.edb_event.specs.declared.entry.Entry.TheVariants as entry
-use Rattle.edb_event.specs.declared.call.Call.{Call}
-use Rattle.edb_event.specs.declared.reply.Reply.{Reply}
 use Rattle.edb_event.specs.Weights.{weight_of}
 use Rattle.edb_rules.specs.Plans.{Plan}
 use Rattle.edb_rules.specs.Facts.{Facts, at_first, debugged_at}
-use Rattle.edb_rules.specs.Notes.{note, after, facts}
-use Rattle.edb_rules.specs.Legal.{May, MayAlone, JudgedFrom, Legal, IsOneHanded, NoLease}
+use Rattle.edb_rules.specs.Notes.{note, after}
+use Rattle.edb_rules.specs.Legal.{May, MayAlone, JudgedFrom, NoLease}
 use Rattle.edb_rules.proofs.Journals.{after_push, legal_push}
-use Rattle.edb_rules.proofs.OneJournal.{none_new, start_none_new, reply_none_new, did_none_new}
 use Rattle.edb_world.specs.Worlds.{IsKept}
 
 pub judged_push : (judge : Plan → Facts → Entry → Type 0) (plan : Plan) (f : Facts) (es : List Entry) (e : Entry)

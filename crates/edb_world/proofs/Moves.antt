@@ -56,7 +56,7 @@ doing_same : (s : Plain) (p : ℕ) (t : Run) → (process_at s p).running ≡ So
 doing_same s p t e =
     ap (λ (o : Option Run). with_process s p (record (process_at s p) { running = o })) (sym e) ∙ with_same s p
 
-doing_at : (s : Plain) (p : ℕ) (t u : Run) → (process_at s p).running ≡ Some t → process_at (doing s p u) p ≡ record (process_at s p) { running = Some u }
+pub doing_at : (s : Plain) (p : ℕ) (t u : Run) → (process_at s p).running ≡ Some t → process_at (doing s p u) p ≡ record (process_at s p) { running = Some u }
 doing_at s p t u e = with_here s p (record (process_at s p) { running = Some u }) t e
 
 doing_moved : (code : List ModuleTree) (s : Plain) (p : ℕ) (t u : Run) → (process_at s p).running ≡ Some t

@@ -6,19 +6,17 @@ use Rattle.std.proofs.lemmas.Option.{none-some, same_Some}
 use Rattle.edb_lang.specs.declared.small.Break.{Break}
 use Rattle.edb_model.specs.Running.{Run}
 use Rattle.edb_lang.specs.Syntax.{ModuleTree}
-use Rattle.edb_model.specs.Move.{Next, acts, begins, pure, next, is_move}
-use Rattle.edb_model.specs.Plain.{Plain, process_at}
+use Rattle.edb_model.specs.Move.{Next, acts, begins, pure, next}
+use Rattle.edb_model.specs.Plain.{process_at}
 use Rattle.edb_model.specs.Innermost.{innermost}
 use Rattle.edb_event.specs.declared.entry.Cause.TheVariants as cause
 use Rattle.edb_event.specs.declared.entry.Entry.{Entry}
 use Rattle.edb_event.specs.declared.entry.Entry.TheVariants as entry
-use Rattle.edb_event.specs.Ranges.{IsEntry}
-use Rattle.edb_event.specs.Weights.{weight_of}
 use Rattle.edb_rules.specs.Plans.{Plan}
 use Rattle.edb_rules.specs.Facts.{Handout, Debugged, Facts, is_among, debugged_at, with_debugged}
-use Rattle.edb_rules.specs.Slices.{SliceEnd, leaves, act_next, enters, stops, spent, IsSlice, due, if_spent, if_due, at_begin, at_next, end_at, has_body, after_moves}
+use Rattle.edb_rules.specs.Slices.{SliceEnd, leaves, act_next, enters, stops, spent, IsSlice, due, if_spent, if_due, at_begin, at_next, has_body, after_moves}
 use Rattle.edb_rules.specs.Notes.{note, place_of, no_body, end_entries, enter_entry, stop_entry}
-use Rattle.edb_rules.specs.Legal.{MayBegin, NoTrigger, NoCommand, NoLease, IsReady, May}
+use Rattle.edb_rules.specs.Legal.{MayBegin, NoLease, May}
 use Rattle.edb_rules.proofs.OneJournal.{none_new, only}
 use Rattle.edb_rules.proofs.Stops.{with_coming}
 use Rattle.edb_world.specs.declared.world.World.{World}
@@ -28,7 +26,7 @@ use Rattle.edb_world.specs.declared.slices.SliceStop.{SliceStop}
 use Rattle.edb_world.specs.declared.slices.SliceStop.TheVariants as stop
 use Rattle.edb_world.specs.Turns.{IsFirstReady, IsSliceOf, IsStop}
 use Rattle.edb_world.specs.Plans.{IsPlan}
-use Rattle.edb_world.specs.Worlds.{IsKept, Keeps, Awaits, HasNext, IsLeased, IsAfterEnd, IsGoing, Went}
+use Rattle.edb_world.specs.Worlds.{IsKept, Keeps, Awaits, HasNext, IsLeased, IsAfterEnd, Went}
 use Rattle.edb_world.proofs.Growing.{grown, heavier, is_false, none_out}
 use Rattle.edb_world.proofs.Turning.{kept_more}
 use Rattle.edb_world.proofs.RanLaws.{ran_may, ran_running, ran_coming}

@@ -1,20 +1,17 @@
 -- The entries of a slice may stand: its lease, its moves, and what ends it.
 
-use Rattle.std.proofs.Common.{◌≡◌, ℕ, zero, suc, ◌+◌, ◌-◌, ◌<◌, ◌≤◌, min, Bool, true, false, List, [], ◌∷◌, ◌++◌, length, Option, None, Some, slice_index_or, slice_set, replicate, refl, sym, ◌∙◌, ap, subst, arith}
-use Rattle.std.proofs.lemmas.Bool.{both_ways}
+use Rattle.std.proofs.Common.{◌≡◌, ℕ, zero, suc, ◌<◌, true, List, [], ◌∷◌, length, Some, slice_index_or, slice_set, refl, subst, arith}
 use Rattle.std.proofs.lemmas.Option.{none-some}
 use Rattle.edb_model.specs.Running.{Run}
-use Rattle.edb_model.specs.Move.{acts, next, is_move}
-use Rattle.edb_model.specs.Plain.{Process, Plain, nobody, process_at}
-use Rattle.edb_model.specs.Labels.{steps}
+use Rattle.edb_model.specs.Move.{next, is_move}
+use Rattle.edb_model.specs.Plain.{Process, nobody, process_at}
 use Rattle.edb_event.specs.declared.entry.Entry.{Entry}
 use Rattle.edb_event.specs.declared.entry.Entry.TheVariants as entry
 use Rattle.edb_rules.specs.Plans.{Plan}
 use Rattle.edb_rules.specs.Facts.{Debugged, Facts, unseen, debugged_at, with_debugged}
-use Rattle.edb_rules.specs.Notes.{note, facts}
-use Rattle.edb_rules.specs.Legal.{MayBegin, NoTrigger, NoCommand, NoLease, IsReady, May, MayEnd, Legal}
+use Rattle.edb_rules.specs.Legal.{MayBegin, NoTrigger, NoCommand, May}
 use Rattle.edb_rules.proofs.Kept.{lists_agree}
-use Rattle.edb_world.specs.Known.{Known, coming, budget_of, running_at}
+use Rattle.edb_world.specs.Known.{Known, budget_of}
 use Rattle.edb_world.specs.Turns.{IsFirstReady}
 use Rattle.edb_world.specs.Worlds.{IsKept}
 use Rattle.edb_world.proofs.Acting.{turn}

@@ -1,17 +1,14 @@
 -- The trigger that is owed may stand.
 
-use Rattle.std.proofs.Common.{◌≡◌, ℕ, ◌<◌, List, [], ◌∷◌, ◌++◌, Option, None, Some, IsSomeAnd, refl, sym, ◌∙◌, ap, subst, arith}
+use Rattle.std.proofs.Common.{◌≡◌, ◌<◌, [], ◌∷◌, ◌++◌, Option, None, Some, IsSomeAnd, refl, sym, ◌∙◌, ap, subst}
 use Rattle.edb_event.specs.declared.entry.Entry.{Entry}
-use Rattle.edb_event.specs.Ranges.{IsEntry}
 use Rattle.edb_event.specs.Weights.{weight_of}
-use Rattle.edb_rules.specs.Facts.{Owed, Facts}
-use Rattle.edb_rules.specs.Notes.{note}
+use Rattle.edb_rules.specs.Facts.{Owed}
 use Rattle.edb_rules.specs.Legal.{MayBegin, NoLease, May}
 use Rattle.edb_world.specs.declared.world.World.{World}
 use Rattle.edb_world.specs.Known.{Known, noted, trigger_entry}
-use Rattle.edb_world.specs.Plans.{IsPlan}
 use Rattle.edb_world.specs.Worlds.{Keeps, Went}
-use Rattle.edb_world.proofs.Turning.{begins, went, in_range}
+use Rattle.edb_world.proofs.Turning.{begins, went}
 
 some_and : (o : Option Owed) (P : Owed → Type 0) → IsSomeAnd o P → (x : Owed) × (o ≡ Some x) × P x
 some_and None P h = absurd h

@@ -1,20 +1,20 @@
 -- A turn of one entry leads from a world that goes on to another.
 
-use Rattle.std.proofs.Common.{◌≡◌, ℕ, ◌+◌, ◌<◌, ◌≤◌, Bool, true, false, List, [], ◌∷◌, ◌++◌, length, Some, refl, sym, ◌∙◌, ap, subst, arith}
+use Rattle.std.proofs.Common.{◌≡◌, ◌<◌, ◌≤◌, List, [], ◌∷◌, ◌++◌, length, sym, ◌∙◌, ap, subst}
 use Rattle.edb_event.specs.declared.entry.Entry.{Entry}
-use Rattle.edb_event.specs.Ranges.{IsEntry, most_weight}
-use Rattle.edb_event.specs.Weights.{weight, weight_of}
+use Rattle.edb_event.specs.Ranges.{IsEntry}
+use Rattle.edb_event.specs.Weights.{weight}
 use Rattle.edb_rules.specs.Plans.{Plan}
 use Rattle.edb_rules.specs.Facts.{Facts}
-use Rattle.edb_rules.specs.Notes.{note, facts}
+use Rattle.edb_rules.specs.Notes.{note}
 use Rattle.edb_rules.specs.Legal.{MayBegin, May, MayAlone, NoLease}
 use Rattle.edb_rules.proofs.Weighed.{weight_is}
 use Rattle.edb_rules.proofs.Ranges.{entry_in_range}
 use Rattle.edb_rules.proofs.Numbers.{few_processes, turn_within}
 use Rattle.edb_world.specs.declared.world.World.{World}
-use Rattle.edb_world.specs.Known.{Known, noted, coming}
+use Rattle.edb_world.specs.Known.{Known, noted}
 use Rattle.edb_world.specs.Plans.{IsPlan}
-use Rattle.edb_world.specs.Worlds.{IsKept, Keeps, IsGoing, Went}
+use Rattle.edb_world.specs.Worlds.{IsKept, Keeps, Went}
 use Rattle.edb_world.proofs.Growing.{grown, heavier}
 
 pub begins : (w : World) → Keeps w → w.state.facts.weight < w.state.plan.most → MayBegin w.state.plan w.state.facts

@@ -1,6 +1,6 @@
 -- What a world asks of a plan.
 
-use Rattle.std.specs.Prelude.{◌≡◌, ℕ, ◌≤◌, true, List, All}
+use Rattle.std.specs.Prelude.{◌≡◌, ◌≤◌, true, All}
 use Rattle.edb_event.specs.Ranges.{AreCommands}
 use Rattle.edb_rules.specs.Plans.{Plan}
 use Rattle.edb_rules.specs.Replies.{is_served}

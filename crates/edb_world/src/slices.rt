@@ -345,7 +345,7 @@ impl<'a> State<'a> {
         let module = owed.home.copy(self.alloc)?;
         let (pid, line, serial, action) = (owed.process, owed.line, owed.serial, owed.action);
         let applied = match action {
-            Action::Enable => self.server.table.enable(&module, line, serial),
+            Action::Enable => self.server.table.enable_serial(&module, line, serial),
             _ => self.server.table.has(&module, line, serial),
         };
         self.owed = None;

@@ -1,6 +1,6 @@
-use Rattle.std.proofs.Common.{◌≡◌, ℕ, arith}
+use Rattle.std.proofs.Common.{arith}
 use Rattle.edb_world.proofs.Turning.{few_here}
-use Rattle.edb_world.proofs.Finishing.{stopped_going, outcome}
+use Rattle.edb_world.proofs.Finishing.{stopped_going}
 use Rattle.edb_world.proofs.world.World.finish.Goals as goal
 
 pub take_tables-requires : goal.take_tables-requires

@@ -1,10 +1,9 @@
-use Rattle.std.proofs.Common.{◌≡◌, ℕ, ◌+◌, List, [], ◌∷◌, ◌++◌, refl, sym, ◌∙◌, ap, subst, arith}
+use Rattle.std.proofs.Common.{◌≡◌, ap, subst, arith}
 use Rattle.edb_model.specs.declared.act.ActKind.TheVariants as kind
 use Rattle.edb_model.specs.Move.{next}
-use Rattle.edb_event.specs.declared.entry.Entry.{Entry}
 use Rattle.edb_event.specs.Weights.{weight_of}
 use Rattle.edb_world.specs.declared.turns.Turn.{Turn}
-use Rattle.edb_world.specs.Turns.{IsTurn, act_entry}
+use Rattle.edb_world.specs.Turns.{IsTurn}
 use Rattle.edb_world.proofs.Turning.{begins, weighed}
 use Rattle.edb_world.proofs.Acting.{print_may, end_may, act_went, act_in_range}
 use Rattle.edb_world.proofs.world.World.process.Goals as goal

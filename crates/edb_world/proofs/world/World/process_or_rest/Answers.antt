@@ -1,4 +1,4 @@
-use Rattle.std.proofs.Common.{◌≡◌, ℕ, arith}
+use Rattle.std.proofs.Common.{arith}
 use Rattle.edb_world.proofs.Turning.{few_here, turn_here}
 use Rattle.edb_world.proofs.world.World.process_or_rest.Goals as goal
 

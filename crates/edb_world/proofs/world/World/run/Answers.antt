@@ -1,13 +1,11 @@
-use Rattle.std.proofs.Common.{◌≡◌, ℕ, ◌+◌, ◌≤◌, max, List, [], ◌∷◌, ◌++◌, Some, refl, sym, ◌∙◌, ap, subst, arith}
-use Rattle.edb_model.specs.Running.{Run}
+use Rattle.std.proofs.Common.{[], ◌∷◌, refl, ◌∙◌, ap, arith}
 use Rattle.edb_model.specs.Plain.{Plain, process_at}
 use Rattle.edb_rules.specs.Facts.{debugged_at}
 use Rattle.edb_rules.specs.Slices.{after_moves}
 use Rattle.edb_rules.specs.Notes.{stop_entry}
-use Rattle.edb_world.specs.declared.world.World.{World}
 use Rattle.edb_world.specs.Known.{running_at}
 use Rattle.edb_world.proofs.Turning.{weighed}
-use Rattle.edb_world.proofs.Running.{within_budget, some_budget, light_budget, low_enough, ran_plan, ran_lives, ran_weight, ran_free, ran_moves, ended_went, leaves_awaits, act_awaits, spent_awaits, enters_awaits, both_awaits, stops_awaits, enter_next, stop_next, is_some_here, calm_free}
+use Rattle.edb_world.proofs.Running.{within_budget, some_budget, light_budget, low_enough, ran_lives, ran_weight, ran_free, ran_moves, ended_went, leaves_awaits, act_awaits, spent_awaits, enters_awaits, both_awaits, stops_awaits, enter_next, stop_next, is_some_here, calm_free}
 use Rattle.edb_world.proofs.world.World.run.Goals as goal
 
 pub run-requires-clause-room : goal.run-requires-clause-room

@@ -1,9 +1,8 @@
-use Rattle.std.proofs.Common.{◌≡◌, ℕ, ◌+◌, List, [], ◌∷◌, ◌++◌, sym, ◌∙◌, ap, subst, arith}
+use Rattle.std.proofs.Common.{◌≡◌, [], ◌∷◌, ◌++◌, sym, ◌∙◌, ap, subst, arith}
 use Rattle.edb_event.specs.declared.entry.Entry.{Entry}
 use Rattle.edb_event.specs.Ranges.{IsEntry}
-use Rattle.edb_event.specs.Weights.{weight, weight_of}
+use Rattle.edb_event.specs.Weights.{weight_of}
 use Rattle.edb_rules.specs.Notes.{note}
-use Rattle.edb_rules.proofs.Stops.{reply_coming}
 use Rattle.edb_world.specs.Known.{noted, command_entry}
 use Rattle.edb_world.proofs.Growing.{none_out}
 use Rattle.edb_world.proofs.Commanding.{few, next_known, command_may, command_alone, command_weight, command_coming, command_fewer}

@@ -1,4 +1,4 @@
-use Rattle.std.proofs.Common.{◌≡◌, ℕ, ◌+◌, refl, sym, ◌∙◌, ap, subst, arith}
+use Rattle.std.proofs.Common.{arith}
 use Rattle.edb_world.proofs.Turning.{begins, in_range, weighed}
 use Rattle.edb_world.proofs.Triggering.{owed_may, owed_weight, owed_went}
 use Rattle.edb_world.proofs.world.World.turn.Goals as goal

@@ -2,7 +2,7 @@ use Rattle.std.proofs.Common.{◌∙◌, ap, length, map, sym}
 use Rattle.edb_breaks.specs.Table.{enabled_row}
 use Rattle.edb_breaks.proofs.TableLaws.{with_enabled-IsSound}
 use Rattle.edb_breaks.proofs.Turns.{written_back}
-use Rattle.edb_breaks.proofs.table.Breaks.enable.Goals as goal
+use Rattle.edb_breaks.proofs.table.Breaks.enable_serial.Goals as goal
 
 -- src/table.rt:76:5
 pub invariant_of-self : goal.invariant_of-self
