@@ -176,9 +176,6 @@ blank_only : (text from : List ℕ) → SplitsSpaces text from → IsBlankLine t
 blank_only text from h (n, inl e) = inl (spaces_one h.count n from [] (sym h.cut ∙ e ∙ sym (append-nil (spaces n))) h.all nothing_head)
 blank_only text from h (n, inr e) = inr (e.0, spaces_one h.count n from (37 ∷ e.0) (sym h.cut ∙ e.1) h.all (percent_head e.0))
 
-pub blank_none : (text from : List ℕ) → SplitsSpaces text from → from ≡ [] → IsBlankLine text
-blank_none text from h e = (h.count, inl (h.cut ∙ ap (λ x. spaces h.count ++ x) e ∙ append-nil (spaces h.count)))
-
 pub blank_answer : (text from : List ℕ) → SplitsSpaces text from → (byte : ℕ) → Some byte ≡ slice_get from 0 → MatchBool (byte == 37) (IsBlankLine text) (IsBlankLine text → ⊥)
 blank_answer text [] h byte e = absurd (cc)
 blank_answer text (c ∷ from) h byte e = let same : byte ≡ c = cc in by (byte == 37) refl same

@@ -1,6 +1,6 @@
 -- A journal that grows by one entry, and what is left of it without the debugger.
 
-use Rattle.std.proofs.Common.{◌≡◌, List, [], ◌∷◌, ◌++◌, Option, None, Some, refl, sym, ◌∙◌, ap, subst, unwrap_or}
+use Rattle.std.proofs.Common.{◌≡◌, List, [], ◌∷◌, ◌++◌, Option, None, Some, refl, sym, ◌∙◌, ap, unwrap_or}
 use Rattle.std.specs.Option.{option_and_then}
 use Rattle.edb_lang.specs.Syntax.{ModuleTree}
 use Rattle.edb_model.specs.Plain.{Plain}
@@ -19,14 +19,6 @@ after_push plan f (d ∷ es) e = after_push plan (note plan f d) es e
 pub legal_push : (plan : Plan) (f : Facts) (es : List Entry) (e : Entry) → LegalFrom plan f es → May plan (after plan f es) e → LegalFrom plan f (es ++ e ∷ [])
 legal_push plan f [] e l m = (m, tt)
 legal_push plan f (d ∷ es) e l m = (l.0, legal_push plan (note plan f d) es e l.1 m)
-
--- an entry that may stand after these facts makes the journal legal and the facts its note
-pub grows : (plan : Plan) (journal : List Entry) (f : Facts) (e : Entry) → Legal plan journal → facts plan journal ≡ f → May plan f e → Legal plan (journal ++ e ∷ [])
-grows plan journal f e l is m =
-    legal_push plan (at_first plan) journal e l (subst (λ (g : Facts). May plan g e) (sym is) m)
-
-pub grows_to : (plan : Plan) (journal : List Entry) (f g : Facts) (e : Entry) → facts plan journal ≡ f → note plan f e ≡ g → facts plan (journal ++ e ∷ []) ≡ g
-grows_to plan journal f g e is next = after_push plan (at_first plan) journal e ∙ (ap (λ (h : Facts). note plan h e) is ∙ next)
 
 -- what follows a step that was made
 onward : (code : List ModuleTree) (t : Plain) (ls ms : List Label) (o : Option Plain)

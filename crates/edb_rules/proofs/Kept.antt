@@ -5,7 +5,6 @@ use Rattle.std.proofs.lemmas.List.{length-set}
 use Rattle.edb_model.specs.declared.act.ActKind.{ActKind}
 use Rattle.edb_model.specs.declared.act.ActKind.TheVariants as kind
 use Rattle.edb_model.specs.Plain.{Plain}
-use Rattle.edb_model.specs.Lookup.{first_versions}
 use Rattle.edb_event.specs.declared.call.Call.{Call}
 use Rattle.edb_event.specs.declared.call.Call.TheVariants as call
 use Rattle.edb_event.specs.declared.reply.Reply.{Reply}
@@ -39,10 +38,6 @@ pub note_stays : (plan : Plan) (f : Facts) (e : Entry) → May plan f e → Stay
 note_stays plan f e may =
     subst (λ (s : Plain). Stays f.plain s (all_started (labels_of e))) (sym (note_is plan f e may))
     (steps_stay plan.code f.plain may.plain (labels_of e) (no_loads plan f e may) may.enabled)
-
-pub versions_stay : (plan : Plan) (journal : List Entry) → Legal plan journal → (facts plan journal).plain.versions ≡ first_versions plan.code
-versions_stay plan journal legal =
-    kept_from plan (λ f. f.plain.versions ≡ first_versions plan.code) (λ f e same may. (note_stays plan f e may).versions ∙ same) (at_first plan) journal refl legal
 
 -- no name is registered yet
 pub no_names : (plan : Plan) (journal : List Entry) → Legal plan journal → (facts plan journal).plain.names ≡ []

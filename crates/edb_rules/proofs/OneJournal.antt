@@ -25,8 +25,8 @@ use Rattle.edb_rules.specs.Facts.{Handout, Debugged, Owed, Facts, at_first, unse
 use Rattle.edb_rules.specs.Slices.{SliceEnd, IsSlice}
 use Rattle.edb_rules.specs.Replies.{next_call, is_enabled, reply_to, served, after_reply}
 use Rattle.edb_rules.specs.Notes.{note, after, facts}
-use Rattle.edb_rules.specs.Legal.{MayBegin, NoTrigger, NoCommand, IsReady, IsSooner, NoLease, HasTurn, MayStart, IsAnswer, MayServe, MayLease, MayRun, MayAct, MayEnd, MayTrigger, May, JudgedFrom, LegalFrom, Legal, MayAlone, IsOneHanded, IsDone, IsLimit}
-use Rattle.edb_rules.specs.Begins.{Begins, IsOver}
+use Rattle.edb_rules.specs.Legal.{MayBegin, NoTrigger, NoCommand, IsReady, IsSooner, NoLease, HasTurn, MayStart, IsAnswer, MayServe, MayLease, MayRun, MayAct, MayEnd, MayTrigger, May, JudgedFrom, LegalFrom, Legal, MayAlone, IsOneHanded, IsDone, IsLimit, IsOver}
+use Rattle.edb_rules.specs.Begins.{IsBeginning}
 use Rattle.edb_rules.proofs.Known.{with_each}
 
 -- At most one lease is out.
@@ -396,7 +396,7 @@ one_sorted plan f e d a = one_of (MayEnd f) (Later plan f) e d (one_end f e d) (
 
 -- so of two legal journals one begins the other
 agree_from : (plan : Plan) (f : Facts) (es ds : List Entry) → IsOneOut f → LegalFrom plan f es → LegalFrom plan f ds
-    → JudgedFrom MayAlone plan f es → JudgedFrom MayAlone plan f ds → Begins es ds ⊎ Begins ds es
+    → JudgedFrom MayAlone plan f es → JudgedFrom MayAlone plan f ds → IsBeginning es ds ⊎ IsBeginning ds es
 agree_from plan f [] ds a l m x y = inl (ds, refl)
 agree_from plan f (e ∷ es) [] a l m x y = inr (e ∷ es, refl)
 agree_from plan f (e ∷ es) (d ∷ ds) a l m x y =
@@ -413,7 +413,7 @@ first_out : (plan : Plan) (q : ℕ) → (debugged_at (at_first plan) q).out ≡ 
 first_out plan zero = refl
 first_out plan (suc n) = refl
 
-pub agree : (plan : Plan) (j k : List Entry) → Legal plan j → Legal plan k → IsOneHanded plan j → IsOneHanded plan k → Begins j k ⊎ Begins k j
+pub agree : (plan : Plan) (j k : List Entry) → Legal plan j → Legal plan k → IsOneHanded plan j → IsOneHanded plan k → IsBeginning j k ⊎ IsBeginning k j
 agree plan j k l m x y = agree_from plan (at_first plan) j k (λ p q out other. absurd (both_ways _ (first_out plan p) out)) l m x y
 
 -- Nothing follows a journal that is over.
@@ -446,7 +446,7 @@ judged_rest judge plan f [] ds l = l
 judged_rest judge plan f (e ∷ es) ds l = judged_rest judge plan (note plan f e) es ds l.1
 
 -- a journal that is over begins no other journal than itself
-begins_all : (plan : Plan) (j k : List Entry) → Legal plan k → IsOneHanded plan k → IsOver plan (facts plan j) → Begins j k → j ≡ k
+begins_all : (plan : Plan) (j k : List Entry) → Legal plan k → IsOneHanded plan k → IsOver plan (facts plan j) → IsBeginning j k → j ≡ k
 begins_all plan j k l x over b =
     let rest = judged_rest May plan (at_first plan) j b.0 (rw b.1 l) in
     let alone = judged_rest MayAlone plan (at_first plan) j b.0 (rw b.1 x) in

@@ -18,7 +18,8 @@ use Rattle.edb_rules.specs.Plans.{Plan}
 use Rattle.edb_rules.specs.Facts.{Facts, at_first}
 use Rattle.edb_rules.specs.Notes.{note, facts}
 use Rattle.edb_rules.specs.Legal.{LegalFrom, Legal}
-use Rattle.edb_rules.specs.PlainRuns.{starts_in, StartsOnce, IsBeginning}
+use Rattle.edb_rules.specs.PlainRuns.{starts_in, StartsOnce}
+use Rattle.edb_rules.specs.Begins.{IsBeginning}
 use Rattle.edb_rules.proofs.Journals.{erased, steps_append}
 use Rattle.edb_rules.proofs.Steps.{IsNoLoad, AreNoLoads, started, steps_stay}
 use Rattle.edb_rules.proofs.Kept.{no_loads}

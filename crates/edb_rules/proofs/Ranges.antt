@@ -27,7 +27,7 @@ use Rattle.edb_rules.specs.Slices.{SliceEnd, leaves, act_next, enters, stops, sp
 use Rattle.edb_model.specs.Innermost.{innermost}
 use Rattle.edb_rules.specs.Replies.{named_process, process_of, about, next_call, served, after_reply}
 use Rattle.edb_rules.specs.Notes.{no_body, end_entries, coming_after, owed_by, behind, note, facts}
-use Rattle.edb_rules.specs.Legal.{MayRun, May, LegalFrom, Legal}
+use Rattle.edb_rules.specs.Legal.{MayRun, May, Legal}
 use Rattle.edb_rules.specs.Bounds.{AreBounded}
 use Rattle.edb_rules.proofs.Stops.{coming_is, with_coming, did_coming}
 use Rattle.edb_rules.proofs.Entries.{kept_from}
@@ -231,12 +231,3 @@ pub entry_in_range : (plan : Plan) (journal : List Entry) (e : Entry) → AreBou
     → May plan (facts plan journal) e → IsEntry e
 entry_in_range plan journal e bounded are legal may =
     entry_is plan (facts plan journal) e are (kept_from plan Holds (holds_step plan bounded are) (at_first plan) journal (first_holds plan) legal) may
-
--- so are the entries of a legal journal
-entries_from : (plan : Plan) (f : Facts) (es : List Entry) → AreBounded plan.code → AreCommands plan.commands → Holds f → LegalFrom plan f es → AreEntries es
-entries_from plan f [] bounded are h legal = tt
-entries_from plan f (e ∷ es) bounded are h legal =
-    (entry_is plan f e are h legal.0, entries_from plan (note plan f e) es bounded are (holds_step plan bounded are f e h legal.0) legal.1)
-
-pub entries_in_range : (plan : Plan) (journal : List Entry) → AreBounded plan.code → AreCommands plan.commands → Legal plan journal → AreEntries journal
-entries_in_range plan journal bounded are legal = entries_from plan (at_first plan) journal bounded are (first_holds plan) legal

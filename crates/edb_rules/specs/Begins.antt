@@ -1,15 +1,7 @@
--- Two journals of one plan: how one begins the other, and when one is over.
+-- How one list begins another.
 
-use Rattle.std.specs.Prelude.{◌≡◌, ◌⊎◌, List, ◌++◌}
-use Rattle.edb_event.specs.declared.entry.Entry.{Entry}
-use Rattle.edb_rules.specs.Plans.{Plan}
-use Rattle.edb_rules.specs.Facts.{Facts}
-use Rattle.edb_rules.specs.Legal.{IsLimit, IsDone}
+use Rattle.std.specs.Prelude.{◌≡◌, List, ◌++◌}
 
--- the first of two journals is the second up to some place
-abbrev pub Begins : List Entry → List Entry → Type 0
-Begins j k = (rest : List Entry) × (j ++ rest ≡ k)
-
--- the world is over, by its weight or since nothing can come
-abbrev pub IsOver : Plan → Facts → Type 0
-IsOver plan f = IsDone plan f ⊎ IsLimit plan f
+-- the first of two lists, of entries, of labels or of what was printed, is the second up to some place
+abbrev pub IsBeginning : {A : Type 0} → List A → List A → Type 0
+IsBeginning {A} xs ys = (rest : List A) × (xs ++ rest ≡ ys)

@@ -198,3 +198,6 @@ pub record IsDone (plan : Plan) (f : Facts) : Type 0 where
   pub call : MayBegin plan f
   pub served : next_call plan f ≡ None
   pub quiet : IsQuiet plan f
+
+abbrev pub IsOver : Plan → Facts → Type 0
+IsOver plan f = IsDone plan f ⊎ IsLimit plan f

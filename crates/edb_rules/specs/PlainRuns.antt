@@ -1,6 +1,6 @@
--- The plain runs that are left of two journals: the processes that they start, and how one run begins another.
+-- The processes that the plain run of a journal starts.
 
-use Rattle.std.specs.Prelude.{◌≡◌, ◌⊎◌, ℕ, List, [], ◌∷◌, ◌++◌}
+use Rattle.std.specs.Prelude.{◌≡◌, ◌⊎◌, ℕ, List, [], ◌∷◌}
 use Rattle.edb_lang.specs.Terms.{Datum}
 use Rattle.edb_model.specs.Labels.{Label, start}
 use Rattle.edb_event.specs.declared.entry.Entry.{Entry}
@@ -15,7 +15,3 @@ starts_in (label ∷ labels) = starts_in labels
 -- A journal starts no process yet, or one: with the call of function n of module m with these arguments.
 abbrev pub StartsOnce : List ℕ → List ℕ → Datum → List Entry → Type 0
 StartsOnce m n args journal = (starts_in (erase journal) ≡ []) ⊎ (starts_in (erase journal) ≡ start m n args ∷ [])
-
--- the first of two lists, of labels or of what was printed, is the second up to some place
-abbrev pub IsBeginning : {A : Type 0} → List A → List A → Type 0
-IsBeginning {A} xs ys = (rest : List A) × (xs ++ rest ≡ ys)

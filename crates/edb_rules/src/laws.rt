@@ -10,15 +10,15 @@ ghost use Rattle.edb_event.specs.declared.entry.Entry.TheVariants as entry;
 ghost use Rattle.edb_event.specs.declared.reply.Reply.{Reply};
 ghost use Rattle.edb_model.specs.Labels.{IsPlainRun};
 ghost use Rattle.edb_lang.specs.Terms.{Datum};
-ghost use Rattle.edb_rules.specs.PlainRuns.{StartsOnce, IsBeginning};
+ghost use Rattle.edb_rules.specs.PlainRuns.{StartsOnce};
 ghost use Rattle.edb_rules.specs.Plans.{Plan};
 ghost use Rattle.edb_rules.specs.Facts.{debugged_at};
 ghost use Rattle.edb_rules.specs.Replies.{next_call};
 ghost use Rattle.edb_rules.specs.Notes.{facts};
 ghost use Rattle.edb_event.specs.Erasure.{erase};
-ghost use Rattle.edb_rules.specs.Legal.{Legal, IsOneHanded, IsAnswer, IsDone};
+ghost use Rattle.edb_rules.specs.Legal.{Legal, IsOneHanded, IsAnswer, IsDone, IsOver};
 ghost use Rattle.edb_rules.specs.Stops.{WasDue, StandsBefore, PassesNone};
-ghost use Rattle.edb_rules.specs.Begins.{Begins, IsOver};
+ghost use Rattle.edb_rules.specs.Begins.{IsBeginning};
 ghost use Rattle.edb_rules.specs.Commands.{IsCommandAt, command_of, commands_in};
 ghost use Rattle.edb_rules.specs.Between.{StandsBetween, IsTurnOf, Resumes, HasMoves};
 ghost use Rattle.edb_rules.specs.Taken.{GoesBy, TookIn, KeepsBudget};
@@ -62,7 +62,7 @@ pub fn no_move_passes_a_due_beginning()
 /// With one hand the rules leave one journal: of two legal one-handed journals of a plan one begins the other, and
 /// two that are over are the same.
 pub fn one_journal()
-    ensures agree { (plan : Plan) (j : List Entry) (k : List Entry) → Legal plan j → Legal plan k → IsOneHanded plan j → IsOneHanded plan k → Begins j k ⊎ Begins k j }
+    ensures agree { (plan : Plan) (j : List Entry) (k : List Entry) → Legal plan j → Legal plan k → IsOneHanded plan j → IsOneHanded plan k → IsBeginning j k ⊎ IsBeginning k j }
     ensures one { (plan : Plan) (j : List Entry) (k : List Entry) → Legal plan j → Legal plan k → IsOneHanded plan j → IsOneHanded plan k → IsOver plan (facts plan j) → IsOver plan (facts plan k) → j ≡ k }
 {}
 

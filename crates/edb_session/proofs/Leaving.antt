@@ -1,6 +1,6 @@
 -- What a world leaves is a run of its plan.
 
-use Rattle.std.proofs.Common.{◌≡◌, sym, ◌∙◌}
+use Rattle.std.proofs.Common.{sym, ◌∙◌}
 use Rattle.edb_rules.specs.Plans.{Plan}
 use Rattle.edb_rules.specs.Notes.{facts}
 use Rattle.edb_rules.proofs.Journals.{erased}

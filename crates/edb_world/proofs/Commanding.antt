@@ -1,6 +1,6 @@
 -- The console's next command: its place in the plan, and that its entry may stand.
 
-use Rattle.std.proofs.Common.{◌≡◌, inl, inr, ℕ, zero, suc, ◌+◌, ◌<◌, Bool, true, false, if◌then◌else◌, nat_lt, List, [], ◌∷◌, ◌++◌, length, Option, None, Some, refl, sym, ◌∙◌, subst}
+use Rattle.std.proofs.Common.{◌≡◌, inl, inr, ℕ, zero, suc, ◌+◌, ◌<◌, Bool, true, false, if◌then◌else◌, nat_lt, List, [], ◌∷◌, ◌++◌, length, Option, Some, refl, sym, ◌∙◌, subst}
 use Rattle.std.specs.Prelude.{IfSome}
 use Rattle.std.specs.List.{All, slice_get}
 use Rattle.std.proofs.lemmas.Bool.{ltb-true, both_ways}
@@ -142,9 +142,6 @@ command_fewer k x q = reply_none_new k.facts 1 x (reply_to k.plan k.facts 1 x) q
 -- the next command, where it isn't enabled, is none to be served; so nothing but quiet can come
 pub no_command : (plan : Plan) (f : Facts) (x : Call) → next_call plan f ≡ Some x → is_enabled f x ≡ false → NoCommand plan f
 no_command plan f x next disabled = subst (λ (o : Option Call). IfSome o (λ y. is_enabled f y ≡ false)) (sym next) disabled
-
-pub no_call : (plan : Plan) (f : Facts) → next_call plan f ≡ None → NoCommand plan f
-no_call plan f none = subst (λ (o : Option Call). IfSome o (λ y. is_enabled f y ≡ false)) (sym none) tt
 
 pub still : (plan : Plan) (f : Facts) (x : Call) → NoTrigger f → next_call plan f ≡ Some x → is_enabled f x ≡ false → NoLease f
     → ((q : ℕ) → IsReady f q → ⊥) → IsQuiet plan f

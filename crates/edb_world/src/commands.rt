@@ -8,7 +8,7 @@ ghost use Rattle.edb_event.specs.declared.call.Word.TheVariants as word;
 ghost use Rattle.edb_event.specs.declared.entry.Entry.TheVariants as entry;
 ghost use Rattle.edb_event.specs.declared.reply.Reply.TheVariants as reply;
 ghost use Rattle.edb_rules.specs.Replies as rules;
-ghost use Rattle.edb_rules.specs.Replies.{next_call, is_enabled, has_status, is_served, process_of, refused, reply_to};
+ghost use Rattle.edb_rules.specs.Replies.{next_call, is_enabled, has_status, process_of, refused, reply_to};
 ghost use Rattle.edb_world.specs.Known.{noted, command_entry};
 ghost use Rattle.edb_world.specs.Served.{IsCounted, counted, served_known, with_newborn};
 
@@ -112,11 +112,9 @@ impl<'a> State<'a> {
         }
     }
 
-    /// Serves an enabled command, or starts its process.
+    /// Serves a command as one that is enabled, or starts its process.
     pub(crate) fn answer(&mut self, call: Call) -> Result<Entry, AllocError>
         requires left { self.old.facts.served < length self.old.plan.commands }
-        requires known { is_served call ≡ true }
-        requires enabled { is_enabled self.old.facts call ≡ true }
         requires fits { self.old.facts.weight + 1 < 2 ^ 32 }
         ensures entry { IfOk result (λ e. e ≡ command_entry self.old call) }
         ensures state { IfOk result (λ e. self.new ≡ noted self.old e) }

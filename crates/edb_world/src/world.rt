@@ -292,7 +292,8 @@ impl<'a> World<'a> {
     }
 }
 
-/// What a world leaves: its journal, its tables, and whether the greatest weight ended it.
+/// What a world leaves: its journal, the tables of the plain run in it, and whether the greatest weight ended it
+/// (`limit`) or nothing was left to do.
 #[derive(Drop)]
 pub struct Outcome {
     pub journal: Journal,
@@ -303,8 +304,10 @@ pub struct Outcome {
 /// Lets a world go.
 fn discard(_world: World<'_>) {}
 
-/// Runs the modules by the console's commands until nothing is left to do, or until the journal's weight
-/// reaches `most`; a slice has at most `slice` moves. Refused only for want of memory.
+/// Runs the modules by the commands of console 1 until nothing is left to do, or until the journal's weight
+/// reaches `most`; a slice has at most `slice` moves. What is given has to be a plan that a world runs (`IsPlan`):
+/// names and arities in the modules that entries can have, commands in range and of those that are served, a
+/// slice of one move at least, and `most` at most 1,000,000. Refused only for want of memory.
 pub fn run_world(
     alloc: Global,
     code: &Code,

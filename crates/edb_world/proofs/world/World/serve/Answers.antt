@@ -12,9 +12,6 @@ use Rattle.edb_world.proofs.world.World.serve.Goals as goal
 pub answer-requires-clause-left : goal.answer-requires-clause-left
 answer-requires-clause-left c = few c.args.self.now.state.plan c.args.self.now.state.facts c.args.call c.requires.next
 
-pub answer-requires-clause-known : goal.answer-requires-clause-known
-answer-requires-clause-known c = next_known c.args.self.now.state.plan c.args.self.now.state.facts c.args.call c.requires.plan.known c.requires.next
-
 pub push-requires-clause-range : goal.push-requires-clause-range
 push-requires-clause-range c =
     subst (λ (e : Entry). IsEntry e) (sym c.in_ok-entry.ensures.entry)
