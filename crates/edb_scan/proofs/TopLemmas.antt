@@ -72,6 +72,10 @@ placed_more : (items tokens : List Placed) (line : ℕ) (p : Option Token) → (
 placed_more items tokens line None = ap (λ t. t ++ tokens) (append-nil items)
 placed_more items tokens line (Some t) = append_assoc items (record { line = line; token = t } ∷ []) tokens
 
+placed_length : (line : ℕ) (p : Option Token) (tokens : List Placed) → length (placed line p tokens) ≤ 1 + length tokens
+placed_length line None tokens = omega arith
+placed_length line (Some t) tokens = omega arith
+
 pub goes_on : (bytes front rest after : List ℕ) (behind string : Bool) (items more : List Placed) (line : ℕ) (p : Option Token) (begins : Begins rest after p) → MayStand behind p
     → string ≡ is_string p → line ≡ line_after front → more ≡ items ++ placed line p [] → Goes bytes front behind rest items → Goes bytes (front ++ begins.text) string after more
 goes_on bytes front rest after behind string items more line p begins may is at put goes tokens stop parted =
@@ -153,3 +157,16 @@ counted front rest text after lines more so_far cut counts =
 pub line_here : (front : List ℕ) (lines : ℕ) → lines ≡ count_by (λ c. c == 10) front → 1 + lines ≡ line_after front
 unfolding line_after
 line_here front lines e = ap (λ n. 1 + n) e
+
+-- each token has a byte at least
+few_behind : (front : List ℕ) (behind : Bool) (rest : List ℕ) (tokens : List Placed) (stop : Option ℕ) → Parted front behind rest tokens stop → length tokens ≤ length rest
+few_behind front behind rest tokens stop (at_end _ _) = omega arith
+few_behind front behind rest tokens stop (at_fault _ _ _ some none) = omega arith
+few_behind front behind rest tokens stop (next_piece _ _ _ after next p others _ _ begins may e f parted) =
+    let shorter = piece_shorter rest after p begins in
+    let others_few = few_behind next (is_string p) after others stop parted in
+    omega (arith, shorter, others_few, ap length f, placed_length (line_after front) p others)
+
+pub tokens_few : (bytes : List ℕ) (tokens : List Placed) → AreTokens bytes tokens → length tokens ≤ longest_file
+unfolding AreTokens
+tokens_few bytes tokens h = omega (arith, h.0, few_behind [] false bytes tokens None h.1)

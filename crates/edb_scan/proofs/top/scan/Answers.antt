@@ -1,5 +1,5 @@
 use Rattle.std.proofs.Common.{◌++◌, refl, arith}
-use Rattle.edb_scan.proofs.TopLemmas.{goes_on, comes_on, fault_here, fault_at_limit, too_long, all_tokens, next_cut, piece_shorter, counted, line_here}
+use Rattle.edb_scan.proofs.TopLemmas.{goes_on, comes_on, fault_here, fault_at_limit, too_long, all_tokens, tokens_few, next_cut, piece_shorter, counted, line_here}
 use Rattle.edb_scan.proofs.top.scan.Goals as goal
 
 pub returns-then-at-ge-LONGEST_FILE : goal.returns-then-at-ge-LONGEST_FILE
@@ -39,3 +39,8 @@ pub returns : goal.returns
 returns c =
     let inv = c.loop-rest.invariant in
     rw c.from_vec.ensures (all_tokens c.args.bytes.now inv.0 c.loop-rest.rest.now c.loop-rest.behind_string c.loop-rest.items.items inv.3 (grind arith) c.if-bytes-gt-LONGEST_FILE.false)
+
+pub from_vec-requires : goal.from_vec-requires
+from_vec-requires c =
+    let inv = c.loop-rest.invariant in
+    tokens_few c.args.bytes.now c.loop-rest.items.items (all_tokens c.args.bytes.now inv.0 c.loop-rest.rest.now c.loop-rest.behind_string c.loop-rest.items.items inv.3 (grind arith) c.if-bytes-gt-LONGEST_FILE.false)

@@ -1,0 +1,16 @@
+pub mod Toks
+pub mod Marks
+pub mod Operators
+pub mod Strings
+pub mod Patterns
+pub mod Expressions
+pub mod Forms
+pub mod Files
+pub mod Faults
+pub mod Literals
+pub mod Reading
+pub mod PatternReading
+pub mod ExpressionReading
+pub mod FormReading
+pub mod LiteralReading
+pub mod FileReading

@@ -1,0 +1,4 @@
+pub mod Tags
+pub mod Turns
+pub mod Passing
+pub mod LiteralTies

@@ -1,0 +1,4 @@
+pub mod Gives
+pub mod Cursors
+pub mod Lists
+pub mod LiteralGives
