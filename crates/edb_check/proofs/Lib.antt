@@ -1,0 +1,15 @@
+pub mod Bindings
+pub mod Cases
+pub mod Clashes
+pub mod Composing
+pub mod Duplicates
+pub mod Going
+pub mod Items
+pub mod Keys
+pub mod Least
+pub mod Marks
+pub mod NameLists
+pub mod NamedTests
+pub mod Walking
+pub mod JoinLaws
+pub mod Joining

@@ -1,0 +1,15 @@
+pub mod Faults
+pub mod Scopes
+pub mod PatternRules
+pub mod Binds
+pub mod Names
+pub mod Functions
+pub mod GuardRules
+pub mod Rules
+pub mod Modules
+pub mod Stops
+pub mod Kept
+pub mod Views
+pub mod Walking
+pub mod Parts
+pub mod Joins

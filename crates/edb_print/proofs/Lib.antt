@@ -1,0 +1,12 @@
+pub mod Rows
+pub mod SoundTokens
+pub mod Reread
+pub mod PatternsAgain
+pub mod Outer
+pub mod Operands
+pub mod ExpressionsAgain
+pub mod DepthUnlined
+pub mod FilesAgain
+pub mod TextsSound
+pub mod Texts
+pub mod Laid

@@ -1,0 +1,6 @@
+pub mod MarkText
+pub mod Pieces
+pub mod Layout
+pub mod Unlined
+pub mod Views
+pub mod Parts
