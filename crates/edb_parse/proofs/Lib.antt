@@ -1,4 +1,10 @@
 pub mod Tags
 pub mod Turns
 pub mod Passing
+pub mod PatternTies
+pub mod FormTies
+pub mod FileTies
+pub mod Gathering
+pub mod Steps
+pub mod Climbing
 pub mod LiteralTies

@@ -1,6 +1,6 @@
 -- Loops over items with a mark between them: what has been read so far, and what is still to be read, are the whole.
 
-use Rattle.std.proofs.Common.{◌≡◌, ◌-◌, ℕ, zero, suc, ◌≤◌, ◌<◌, List, [], ◌∷◌, ◌++◌, length, Option, Some, None, refl, sym, ◌∙◌, ap, arith}
+use Rattle.std.proofs.Common.{◌≡◌, ℕ, zero, suc, ◌≤◌, ◌<◌, List, [], ◌∷◌, ◌++◌, length, Option, Some, None, refl, sym, ◌∙◌, ap, arith}
 use Rattle.edb_scan.specs.declared.lexeme.Mark.{Mark}
 use Rattle.edb_scan.specs.declared.lexeme.Placed.{Placed}
 use Rattle.edb_grammar.specs.Toks.{Tok, places, funs_with}
@@ -111,7 +111,3 @@ pub going_ends : {A L : Type 0} (cons : A → L → L) (nil : L) (x : Mark) (rea
 going_ends cons nil x read whole xs rest g none_here =
     g.so_far ∙ (ap (λ o. onto cons g.front (last_or_more cons nil (items cons nil x read g.turns) g.last rest o)) none_here
     ∙ (onto_some cons nil g.front g.last rest ∙ ap (λ l. Some (gather cons nil l, rest)) (sym g.all)))
-
--- a number that isn't 0 is one above another
-pub above : (n : ℕ) → (n ≡ 0 → ⊥) → n ≡ suc (n - 1)
-above n some = omega (arith, some)

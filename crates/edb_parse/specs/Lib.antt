@@ -1,4 +1,11 @@
 pub mod Gives
 pub mod Cursors
 pub mod Lists
+pub mod FormViews
+pub mod FileViews
+pub mod Descent
+pub mod Operating
+pub mod Heads
+pub mod Handling
+pub mod Choosing
 pub mod LiteralGives

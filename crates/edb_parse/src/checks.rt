@@ -121,7 +121,7 @@ fn other_texts_are_no_terms(rt: HostRuntime) -> Result<(), Fail> {
 }
 
 /// So many times the front, then the middle, then so many times the end.
-fn nested(
+pub(crate) fn nested(
     alloc: Global,
     front: &[u8],
     middle: &[u8],
@@ -186,7 +186,7 @@ fn the_longest_lists_are_read(rt: HostRuntime) -> Result<(), Fail> {
 }
 
 /// The front, then so many times the middle, then the end.
-fn repeated(
+pub(crate) fn repeated(
     alloc: Global,
     front: &[u8],
     middle: &[u8],

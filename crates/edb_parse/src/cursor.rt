@@ -4,10 +4,14 @@ ghost use Rattle.std.specs.Prelude.{◌≡◌, ◌<◌, ◌∷◌, ◌++◌, [],
 ghost use Rattle.edb_grammar.specs.Toks.{tok};
 ghost use Rattle.edb_grammar.specs.Toks as grammar;
 ghost use Rattle.edb_grammar.specs.Reading as reading;
+ghost use Rattle.edb_grammar.specs.ExpressionReading as expressions;
+ghost use Rattle.edb_grammar.specs.FormReading as forms;
 ghost use Rattle.edb_parse.specs.declared.unread.Unread.TheVariants.{Refused};
 ghost use Rattle.edb_parse.specs.Cursors.{toks, at_place, Fits, Moves, Stays};
+ghost use Rattle.edb_parse.specs.Gives.{Gives, GivesTree};
 
 use crate::unread::Unread;
+use edb_lang::Name;
 use edb_scan::{Mark, Placed, Text, Token};
 use std::alloc::{AllocError, Global};
 
@@ -26,7 +30,7 @@ pub struct Place {
 }
 
 /// How many `fun`s stand up to this token, where so many stand before it.
-fn funs_with(funs: u32, token: &Token) -> u32
+pub fn funs_with(funs: u32, token: &Token) -> u32
     requires { funs < 4_294_967_295 }
     ensures { result ≡ grammar.funs_with funs token.now }
 {
@@ -90,6 +94,59 @@ impl<'a> Cursor<'a> {
         }
     }
 
+    /// The line of the first token; 1 where there is none.
+    pub fn line(self) -> u32
+        ensures { result ≡ grammar.line_at (toks self.entry) }
+    {
+        match self.tokens.first() {
+            Some(placed) => placed.line,
+            None => 1,
+        }
+    }
+
+    /// The name of the atom that stands first, and what stands behind it.
+    pub fn name(self) -> Result<(&'a Name, Cursor<'a>), Unread>
+        requires fits { Fits self }
+        ensures gives { Gives (λ name. name.now) result (expressions.read_name (toks self.entry)) }
+        ensures moves { IfOk result (λ x. Moves self.entry x.1) }
+    {
+        let (_, token, rest) = self.require()?;
+        match token {
+            Token::Atom(name) => Ok((name, rest)),
+            _ => Err(Unread::Refused),
+        }
+    }
+
+    /// The integer that stands first, where it may be a number of parameters, and what stands behind it.
+    pub fn arity(self) -> Result<(u32, Cursor<'a>), Unread>
+        requires fits { Fits self }
+        ensures gives { GivesTree result (expressions.read_arity (toks self.entry)) }
+        ensures moves { IfOk result (λ x. Moves self.entry x.1) }
+    {
+        let (_, token, rest) = self.require()?;
+        match token {
+            Token::Int(value) if *value <= 255 => Ok((*value as u32, rest)),
+            _ => Err(Unread::Refused),
+        }
+    }
+
+    /// Whether nothing is left but the dot that ends a form; refused where it isn't so.
+    pub fn expect_end(self) -> Result<(), Unread>
+        requires fits { Fits self }
+        ensures { MatchResult result (λ _. forms.is_end (toks self.entry) ≡ true) (λ e. (forms.is_end (toks self.entry) ≡ false) × (e ≡ Refused)) }
+    {
+        let (_, token, rest) = self.require()?;
+        match token {
+            Token::Dot => {
+                if rest.tokens.is_empty() {
+                    return Ok(());
+                }
+                Err(Unread::Refused)
+            }
+            _ => Err(Unread::Refused),
+        }
+    }
+
     /// The string token that stands first, and what stands behind it.
     fn string(self) -> Option<(&'a Text, Cursor<'a>)>
         requires fits { Fits self }
@@ -130,4 +187,14 @@ pub fn integer(value: u128) -> Result<i128, Unread>
         return Ok(value as i128);
     }
     Err(Unread::Refused)
+}
+
+/// Whether this is the name of the variable that nothing binds.
+pub fn is_blank(name: &Name) -> bool
+    ensures { result ≡ reading.is_blank name.now }
+{
+    match name.as_bytes() {
+        [byte] => *byte == b'_',
+        _ => false,
+    }
 }

@@ -1,13 +1,34 @@
-//! The parser. So far it reads literal terms: the tokens of a text become the one term that they are, or a fault says
-//! that they are none.
+//! The parser: the tokens of a text become the syntax trees of a module, or a fault names the first form
+//! that has no tree.
 #![tactic(auto)]
 
+mod attributes;
+mod bodies;
+mod calls;
 #[cfg(test)]
 mod checks;
+mod choices;
+mod clauses;
 mod cursor;
+mod expressions;
 mod fault;
+mod files;
+mod forms;
+mod functions;
+mod funs;
+mod handlers;
+mod keeping;
+mod lists;
 mod literals;
+#[cfg(test)]
+mod modules;
+mod operators;
+mod patterns;
+mod primaries;
+mod qualifiers;
+mod top;
 mod unread;
 
 pub use fault::FormFault;
 pub use literals::parse_term;
+pub use top::parse;

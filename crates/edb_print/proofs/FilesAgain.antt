@@ -8,12 +8,12 @@ use Rattle.edb_syntax.specs.declared.modules.Export.{Export}
 use Rattle.edb_syntax.specs.Depths.{clauses_depth}
 use Rattle.edb_syntax.specs.Syntax.{Clauses, FunctionTree, ModuleTree}
 use Rattle.edb_grammar.specs.Toks.{Place, Tok, tok, word, line_at, most_integer, funs_behind}
-use Rattle.edb_grammar.specs.Expressions.{most_parameters}
+use Rattle.edb_grammar.specs.Expressions.{most_parameters, Head, ReadsClauses, last_clause, next_clause}
 use Rattle.edb_grammar.specs.Forms.{names, exports, defines, deepest, ReadsEntries, last_entry, next_entry, no_entries, some_entries, ReadsForm, a_module, an_export, a_function}
 use Rattle.edb_grammar.specs.Files.{is_dot, with_first, forms_of, ReadsForms, no_forms, export_form, skipped_form, function_form, ReadsFile, a_file}
 use Rattle.edb_grammar.proofs.FormSteps.{form_then}
 use Rattle.edb_print.specs.Pieces.{Gap, tight, blank, line, Piece, piece, sign, tokens_of}
-use Rattle.edb_print.specs.Layout.{with_name, lay_clauses, lay_function, lay_functions, lay_entry, lay_more_entries, lay_exports, lay_module}
+use Rattle.edb_print.specs.Layout.{with_name, lay_clauses, lay_dot, lay_function, lay_functions, lay_entry, lay_more_entries, lay_exports, lay_module}
 use Rattle.edb_print.specs.Unlined.{unlined_clauses, unlined_entry, unlined_function, unlined_module}
 use Rattle.edb_print.proofs.SoundTokens.{Sound, AllSound, sound_export, sound_module}
 use Rattle.edb_print.proofs.Reread.{Counts, SoundPieces, sound_append, sound_tokens, Undotted, put, funs_past, funs_laid, line_past, Found, Reread, Twin, done, added, join, mapped, counts_front, funs_past_append, funs_laid_append, put_append, counts_places, funs_past_places, funs_behind_tokens, tokens_append, without_dot}
@@ -78,6 +78,14 @@ function_again (a_function {n = k} {f = f} {ts = ts} {cs = cs} d r w deep) n l c
     let b = form_found (Twin Defines unlined_function (record { name = f; arity = k; line = line_at ts; clauses = cs })) _ ts n l a in
     record { holds = b.holds; funs = b.funs ∙ sym (funs_past_append n ts (tok d Dot ∷ [])); calm = b.calm; sound = b.sound }
 
+-- a function that the grammar reads has a clause
+clauses_dotted : {m : ℕ} {h : Head} {ts : List Tok} {cs : Clauses} → ReadsClauses m h ts cs → lay_dot cs ≡ dot
+clauses_dotted (last_clause r) = refl
+clauses_dotted (next_clause s r rs) = refl
+
+function_dotted : {ts : List Tok} {f : FunctionTree} → ReadsForm ts (defines f) → lay_function f ≡ clauses_laid f ++ dot
+function_dotted (a_function {f = f} {cs = cs} d r w deep) = ap (λ (ps : List Piece). lay_clauses (with_name f) (line 0) 0 0 cs ++ ps) (clauses_dotted r)
+
 -- each token of each form is one that a text may have
 abbrev FormsSound : List (List Placed) → Type 0
 FormsSound [] = Unit {0}
@@ -108,17 +116,20 @@ functions_again no_forms fit l = record { trees = []; reads = no_forms; same = r
 functions_again (export_form r rs) fit l = functions_again rs fit.1 l
 functions_again (skipped_form r rs) fit l = functions_again rs fit.1 l
 functions_again (function_form {n = n} {form = form} {f = f} {fs = fs} r rs) fit l =
+    let laid = clauses_laid f ++ dot in
+    let split : lay_functions (f ∷ fs) ≡ laid ++ lay_functions fs = ap (λ (ps : List Piece). ps ++ lay_functions fs) (function_dotted r) in
     let a = function_again r n l (counts_places n form fit.0) in
-    let b = functions_again rs fit.1 (line_past l (lay_function f)) in
-    let moved : funs_behind n form ≡ funs_behind n (tokens_of l (lay_function f)) =
-    sym (funs_behind_tokens n l (lay_function f) ∙ a.funs ∙ funs_past_places n form) in
+    let b = functions_again rs fit.1 (line_past l laid) in
+    let moved : funs_behind n form ≡ funs_behind n (tokens_of l laid) =
+    sym (funs_behind_tokens n l laid ∙ a.funs ∙ funs_past_places n form) in
     record {
       trees = a.holds.tree ∷ b.trees;
-      reads = subst (λ (v : List (List Placed)). ReadsForms n v [] (a.holds.tree ∷ b.trees)) (sym (first_form l (clauses_laid f) (lay_functions fs) a.calm))
+      reads = subst (λ (v : List (List Placed)). ReadsForms n v [] (a.holds.tree ∷ b.trees))
+          (sym (ap (λ (ps : List Piece). forms_of (tokens_of l ps)) split ∙ first_form l (clauses_laid f) (lay_functions fs) a.calm))
           (function_form a.holds.reads
-          (subst (λ k. ReadsForms k (forms_of (tokens_of (line_past l (lay_function f)) (lay_functions fs))) [] b.trees) moved b.reads));
+          (subst (λ k. ReadsForms k (forms_of (tokens_of (line_past l laid) (lay_functions fs))) [] b.trees) moved b.reads));
       same = λ i. a.holds.same i ∷ b.same i;
-      sound = sound_append (lay_function f) (lay_functions fs) a.sound b.sound;
+      sound = subst SoundPieces (sym split) (sound_append laid (lay_functions fs) a.sound b.sound);
     }
 
 -- entries of an export: arities that a function may have, and names that a text may have

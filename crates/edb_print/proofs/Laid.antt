@@ -10,11 +10,12 @@ use Rattle.edb_scan.specs.declared.lexeme.Mark.TheVariants as mark
 use Rattle.edb_scan.specs.declared.lexeme.Token.TheVariants as token
 use Rattle.edb_syntax.specs.declared.operation.UnaryOp.{UnaryOp}
 use Rattle.edb_syntax.specs.declared.operation.BinaryOp.{BinaryOp}
+use Rattle.edb_syntax.specs.declared.operation.Operation.{Operation}
 use Rattle.edb_syntax.specs.declared.operation.Operation.TheVariants as operation
-use Rattle.edb_syntax.specs.Syntax.{Exp, Exps, Guards, ClauseTree, CatchTree, apply, and_also, or_else, none, more, clause, exps_of, guards_of, clauses_of, catches_of}
+use Rattle.edb_syntax.specs.Syntax.{Exp, Exps, Guards, ClauseTree, CatchTree, FunctionTree, apply, and_also, or_else, none, more, clause, exps_of, guards_of, clauses_of, catches_of}
 use Rattle.edb_print.specs.Pieces.{Gap, tight, blank, line, piece, sign, piece_text, bytes_of}
-use Rattle.edb_print.specs.Layout.{prefix_mark, prefix_gap, is_operator, is_open, grouped, infix_mark, with_pattern, with_parameters, with_name, lay, lay_guard, lay_to_tail, lay_when, lay_clause, lay_of, lay_catch}
-use Rattle.edb_print.specs.Parts.{all_left, lay_item, tail_left, lay_tail_item, lay_behind, lay_infix, lay_arguments, lay_block, lay_handlers}
+use Rattle.edb_print.specs.Layout.{prefix_mark, prefix_gap, is_operator, is_open, grouped, infix_mark, with_pattern, with_parameters, with_name, lay, lay_guard, lay_to_tail, lay_when, lay_clause, lay_clauses, lay_of, lay_catch, lay_dot, lay_function}
+use Rattle.edb_print.specs.Parts.{all_left, lay_item, tail_left, lay_tail_item, lay_behind, lay_braces, lay_infix, lay_arguments, lay_block, lay_handlers}
 use Rattle.edb_print.proofs.Texts.{bytes_append}
 
 -- an operator between the first two operands
@@ -43,6 +44,10 @@ pub catch_block : (d : ℕ) (hs : List CatchTree) → eqb (length hs) 0 ≡ fals
     → lay_catch d (catches_of hs) ≡ sign (line d) mark.Catch ∷ lay_handlers (d + 4) (catches_of hs)
 catch_block d [] h = cc
 catch_block d (c ∷ hs) h = refl
+
+dot_laid : (cs : List ClauseTree) → eqb (length cs) 0 ≡ false → lay_dot (clauses_of cs) ≡ piece tight token.Dot ∷ []
+dot_laid [] h = cc
+dot_laid (c ∷ cs) h = refl
 
 pub when_guard : (d : ℕ) (gs : List Exps) → eqb (length gs) 0 ≡ false
     → lay_when d (guards_of gs) ≡ sign blank mark.When ∷ lay_guard blank d (guards_of gs)
@@ -115,6 +120,12 @@ when_text d gs as_list e h =
     ap (λ v. bytes_of (lay_when d v)) e ∙ ap bytes_of (when_guard d as_list h)
     ∙ ap (λ v. piece_text (sign blank mark.When) ++ bytes_of (lay_guard blank d v)) (sym e)
 
+pub function_text : (f : FunctionTree) (cs : List ClauseTree) → f.clauses ≡ clauses_of cs → eqb (length cs) 0 ≡ false
+    → bytes_of (lay_function f) ≡ bytes_of (lay_clauses (with_name f.name) (line 0) 0 0 f.clauses) ++ piece_text (piece tight token.Dot)
+function_text f cs e h =
+    bytes_append (lay_clauses (with_name f.name) (line 0) 0 0 f.clauses) (lay_dot f.clauses)
+    ∙ ap (λ ps. bytes_of (lay_clauses (with_name f.name) (line 0) 0 0 f.clauses) ++ bytes_of ps) (ap lay_dot e ∙ dot_laid cs h)
+
 pub unary_text : (g k : Gap) (d l : ℕ) (o : UnaryOp) (x : Mark) (es : List Exp) (a : Exp) → es ≡ a ∷ drop 1 es → x ≡ prefix_mark o → k ≡ prefix_gap o
     → bytes_of (lay g d (apply l (operation.Unary o) (exps_of es))) ≡ piece_text (sign g x) ++ bytes_of (grouped (is_operator a) (λ h. lay h d a) k)
 unary_text g k d l o x es a e f h =
@@ -140,17 +151,29 @@ remote_text g d l es a b e =
     ∙ ap (λ v. bytes_of (grouped (is_open a) (λ h. lay h d a) g) ++ (piece_text (sign tight mark.Colon) ++ v))
     (bytes_append (grouped (is_open b) (λ h. lay h d b) tight) (lay_arguments d (exps_of (drop 2 es))))
 
--- fewer than two operands
-pub few_infix : (out : List ℕ) (g : Gap) (d : ℕ) (x : Mark) (es : List Exp) → length es < 2 → out ≡ out ++ bytes_of (lay_infix g d x (exps_of es))
-few_infix out g d x [] h = sym (append-nil out)
-few_infix out g d x (a ∷ []) h = sym (append-nil out)
-few_infix out g d x (a ∷ b ∷ es) h = absurd (omega (arith, h))
+-- fewer operands than an operation takes
+pub few_infix : (g : Gap) (d : ℕ) (x : Mark) (es : List Exp) → length es < 2 → lay_infix g d x (exps_of es) ≡ lay_braces g d (exps_of es)
+few_infix g d x [] h = refl
+few_infix g d x (a ∷ []) h = refl
+few_infix g d x (a ∷ b ∷ es) h = absurd (omega (arith, h))
 
-pub few_remote : (out : List ℕ) (g : Gap) (d l : ℕ) (es : List Exp) → length es < 2
-    → out ≡ out ++ bytes_of (lay g d (apply l operation.RemoteCall (exps_of es)))
-few_remote out g d l [] h = sym (append-nil out)
-few_remote out g d l (a ∷ []) h = sym (append-nil out)
-few_remote out g d l (a ∷ b ∷ es) h = absurd (omega (arith, h))
+pub few_remote : (g : Gap) (d l : ℕ) (es : List Exp) → length es < 2
+    → lay g d (apply l operation.RemoteCall (exps_of es)) ≡ lay_braces g d (exps_of es)
+few_remote g d l [] h = refl
+few_remote g d l (a ∷ []) h = refl
+few_remote g d l (a ∷ b ∷ es) h = absurd (omega (arith, h))
+
+pub none_laid : (g : Gap) (d l : ℕ) (o : Operation) (es : List Exp) → length es < 1 → lay g d (apply l o none) ≡ lay_braces g d none
+    → lay g d (apply l o (exps_of es)) ≡ lay_braces g d (exps_of es)
+none_laid g d l o [] h e = e
+none_laid g d l o (a ∷ es) h e = absurd (omega (arith, h))
+
+pub few_each : {T E : Type 0} (r : Result T E) (out new : List ℕ) (g : Gap) (d : ℕ) (o : Operation) (es : Exps)
+    → ((l : ℕ) → lay g d (apply l o es) ≡ lay_braces g d es) → OnOk r (new ≡ out ++ bytes_of (lay_braces g d es))
+    → OnOk r ((l : ℕ) → new ≡ out ++ bytes_of (lay g d (apply l o es)))
+few_each r out new g d o es e h =
+    on_ok_weaker {P = new ≡ out ++ bytes_of (lay_braces g d es)} {Q = (l : ℕ) → new ≡ out ++ bytes_of (lay g d (apply l o es))} r
+    (λ f l. f ∙ ap (λ ps. out ++ bytes_of ps) (sym (e l))) h
 
 pub tail_text : (g : Gap) (d l : ℕ) (es : List Exp) → eqb (length es) 0 ≡ false
     → bytes_of (lay g d (apply l operation.ListWithTail (exps_of es)))

@@ -9,4 +9,13 @@ pub mod DepthUnlined
 pub mod FilesAgain
 pub mod TextsSound
 pub mod Texts
+pub mod Touching
+pub mod Neighbours
 pub mod Laid
+pub mod SpelledMarks
+pub mod SpelledEnds
+pub mod SpelledNumbers
+pub mod SpelledNames
+pub mod SpelledQuotes
+pub mod SpelledSigns
+pub mod Spelled

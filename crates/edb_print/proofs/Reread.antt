@@ -229,3 +229,7 @@ sound_tokens l (p ∷ ps) u = (u.0, sound_tokens (line_behind l p.gap) ps u.1)
 pub without_dot : (l : ℕ) (ps : List Piece) → Undotted ps → WithoutDot (tokens_of l ps)
 without_dot l [] u = tt
 without_dot l (p ∷ ps) u = (u.0, without_dot (line_behind l p.gap) ps u.1)
+
+pub sound_pieces : (l : ℕ) (ps : List Piece) → AllSound (tokens_of l ps) → SoundPieces ps
+sound_pieces l [] u = tt
+sound_pieces l (p ∷ ps) u = (u.0, sound_pieces (line_behind l p.gap) ps u.1)

@@ -87,8 +87,10 @@ infix_mark binary.GreaterThan = mark.GreaterThan
 infix_mark binary.ExactlyEqual = mark.ExactlyEqual
 infix_mark binary.ExactlyUnequal = mark.ExactlyUnequal
 
--- an operator, a send, a match or a catch: it is in parentheses where it is an operand
+-- an operator, a send, a match or a catch: it is in parentheses where it is an operand. A negative integer, which no
+-- text has, is laid out as `-` on an integer, so it is in parentheses too.
 abbrev pub is_operator : Exp → Bool
+is_operator (int l (negsuc n)) = true
 is_operator (apply l (Unary o) es) = true
 is_operator (apply l (Binary o) es) = true
 is_operator (apply l Send es) = true
@@ -157,8 +159,8 @@ abbrev mutual
       ++ sign tight mark.ParenOpen ∷ (lay_all tight blank d es ++ sign tight mark.ParenClose ∷ []))
   lay g d (apply l FunCall (more e es)) =
       grouped (is_open e) (λ h. lay h d e) g ++ sign tight mark.ParenOpen ∷ (lay_all tight blank d es ++ sign tight mark.ParenClose ∷ [])
-  -- no text has an operation on fewer operands than it takes
-  lay g d (apply l o es) = []
+  -- an operation on fewer operands than it takes, which no text has, is laid out as a tuple of them
+  lay g d (apply l o es) = sign g mark.BraceOpen ∷ (lay_all tight blank d es ++ sign tight mark.BraceClose ∷ [])
   lay g d (and_also l a b) =
       grouped (is_operator a) (λ h. lay h d a) g ++ sign blank mark.AndAlso ∷ grouped (is_operator b) (λ h. lay h d b) blank
   lay g d (or_else l a b) =
@@ -273,9 +275,14 @@ abbrev mutual
   lay_qualifier d (generator p e) = lay_pattern blank p ++ sign blank mark.From ∷ lay blank d e
   lay_qualifier d (filter e) = lay blank d e
 
+-- the dot behind the clauses of a function: none where it has no clause, as in no text
+abbrev pub lay_dot : Clauses → List Piece
+lay_dot no_clauses = []
+lay_dot (more_clauses c cs) = piece tight Dot ∷ []
+
 -- a function: its clauses, each on lines of its own, and the dot
 abbrev pub lay_function : FunctionTree → List Piece
-lay_function f = lay_clauses (with_name f.name) (line 0) 0 0 f.clauses ++ piece tight Dot ∷ []
+lay_function f = lay_clauses (with_name f.name) (line 0) 0 0 f.clauses ++ lay_dot f.clauses
 
 abbrev pub lay_functions : List FunctionTree → List Piece
 lay_functions [] = []

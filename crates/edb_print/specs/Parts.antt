@@ -39,11 +39,15 @@ lay_tail_item false false d e = sign tight mark.Comma ∷ lay blank d e
 abbrev pub lay_behind : ℕ → Mark → Exp → List Piece
 lay_behind d x b = sign blank x ∷ grouped (is_operator b) (λ h. lay h d b) blank
 
--- the first two of operands with an operator between them, where there are so many
+-- expressions in braces
+abbrev pub lay_braces : Gap → ℕ → Exps → List Piece
+lay_braces g d es = sign g mark.BraceOpen ∷ (lay_all tight blank d es ++ sign tight mark.BraceClose ∷ [])
+
+-- the first two of operands with an operator between them; in braces where there are fewer
 abbrev pub lay_infix : Gap → ℕ → Mark → Exps → List Piece
 lay_infix g d x (more a (more b es)) =
     grouped (is_operator a) (λ h. lay h d a) g ++ lay_behind d x b
-lay_infix g d x es = []
+lay_infix g d x es = lay_braces g d es
 
 -- arguments in parentheses
 abbrev pub lay_arguments : ℕ → Exps → List Piece

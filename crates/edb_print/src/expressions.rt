@@ -5,7 +5,7 @@ ghost use Rattle.edb_syntax.specs.Syntax.{exps_of, apply};
 ghost use Rattle.edb_syntax.specs.declared.operation.Operation.TheVariants as operation;
 ghost use Rattle.edb_print.specs.Pieces.{sign, bytes_of};
 ghost use Rattle.edb_print.specs.Layout.{is_operator, is_open, grouped, lay, lay_body, lay_end};
-ghost use Rattle.edb_print.specs.Parts.{all_left, lay_item, tail_left, lay_tail_item, lay_behind, lay_infix, lay_arguments};
+ghost use Rattle.edb_print.specs.Parts.{all_left, lay_item, tail_left, lay_tail_item, lay_behind, lay_braces, lay_infix, lay_arguments};
 ghost use Rattle.edb_print.specs.Views.{gap_of};
 
 use crate::clauses::{
@@ -121,7 +121,7 @@ pub(crate) fn put_expression(
     }
 }
 
-/// Puts an operation on its operands; nothing where they are fewer than it takes.
+/// Puts an operation on its operands; these in braces where they are fewer than it takes.
 #[cycle(put_expression)]
 #[tactic(auto, using(edb_syntax::proofs::Lists::lists, crate::proofs::Texts::texts, crate::proofs::Laid::binary_laid, crate::proofs::Laid::send_laid))]
 fn put_operation(
@@ -135,11 +135,7 @@ fn put_operation(
     ensures { OnOk result ((l : ℕ) → out.new.items ≡ out.old.items ++ bytes_of (lay (gap_of gap) depth (apply l operation.now (exps_of operands.now)))) }
 {
     match operation {
-        Operation::Tuple => {
-            put_sign(out, gap, Mark::BraceOpen)?;
-            put_items(out, alloc, true, Gap::Tight, Gap::Blank, depth, operands, 0)?;
-            put_sign(out, Gap::Tight, Mark::BraceClose)
-        }
+        Operation::Tuple => put_braces(out, alloc, gap, depth, operands),
         Operation::List => {
             put_sign(out, gap, Mark::BracketOpen)?;
             put_items(out, alloc, true, Gap::Tight, Gap::Blank, depth, operands, 0)?;
@@ -156,6 +152,22 @@ fn put_operation(
         Operation::RemoteCall => put_remote_call(out, alloc, gap, depth, operands),
         Operation::FunCall => put_fun_call(out, alloc, gap, depth, operands),
     }
+}
+
+/// Puts expressions in braces.
+#[cycle(put_expression)]
+fn put_braces(
+    out: &mut Vec<u8>,
+    alloc: Global,
+    gap: Gap,
+    depth: usize,
+    operands: &[Expr],
+) -> Result<(), AllocError>
+    ensures { OnOk result (out.new.items ≡ out.old.items ++ bytes_of (lay_braces (gap_of gap) depth (exps_of operands.now))) }
+{
+    put_sign(out, gap, Mark::BraceOpen)?;
+    put_items(out, alloc, true, Gap::Tight, Gap::Blank, depth, operands, 0)?;
+    put_sign(out, Gap::Tight, Mark::BraceClose)
 }
 
 /// Puts an operator before the first of its operands.
@@ -175,7 +187,7 @@ fn put_unary(
             put_sign(out, gap, prefix(op))?;
             put_operand(out, alloc, prefix_gap(op), depth, operand)
         }
-        _ => Ok(()),
+        _ => put_braces(out, alloc, gap, depth, operands),
     }
 }
 
@@ -196,7 +208,7 @@ fn put_infix(
             put_operand(out, alloc, gap, depth, left)?;
             put_behind(out, alloc, depth, mark, right)
         }
-        _ => Ok(()),
+        _ => put_braces(out, alloc, gap, depth, operands),
     }
 }
 
@@ -298,7 +310,7 @@ fn put_remote_call(
             put_callee(out, alloc, Gap::Tight, depth, name)?;
             put_arguments(out, alloc, depth, operands, 2)
         }
-        _ => Ok(()),
+        _ => put_braces(out, alloc, gap, depth, operands),
     }
 }
 
@@ -318,7 +330,7 @@ fn put_fun_call(
             put_callee(out, alloc, gap, depth, callee)?;
             put_arguments(out, alloc, depth, operands, 1)
         }
-        _ => Ok(()),
+        _ => put_braces(out, alloc, gap, depth, operands),
     }
 }
 
@@ -334,7 +346,7 @@ fn put_list_with_tail(
     ensures { OnOk result ((l : ℕ) → out.new.items ≡ out.old.items ++ bytes_of (lay (gap_of gap) depth (apply l operation.ListWithTail (exps_of operands.now)))) }
 {
     if operands.is_empty() {
-        return Ok(());
+        return put_braces(out, alloc, gap, depth, operands);
     }
     put_sign(out, gap, Mark::BracketOpen)?;
     put_with_tail(out, alloc, depth, operands)?;

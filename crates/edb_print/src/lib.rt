@@ -14,5 +14,5 @@ mod quotes;
 mod tests;
 mod tokens;
 
-pub use laws::layout_reads;
+pub use laws::{layout_reads, printed_reads};
 pub use modules::module_text;

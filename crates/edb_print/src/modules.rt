@@ -60,10 +60,13 @@ fn put_dot(out: &mut Vec<u8>) -> Result<(), AllocError>
     Ok(())
 }
 
-/// Puts a function.
+/// Puts a function; nothing where it has no clause.
 fn put_function(out: &mut Vec<u8>, alloc: Global, function: &Function) -> Result<(), AllocError>
     ensures { OnOk result (out.new.items ≡ out.old.items ++ bytes_of (lay_function function.now)) }
 {
+    if function.clauses.is_empty() {
+        return Ok(());
+    }
     put_named_clauses(out, alloc, function.name.as_bytes(), &function.clauses)?;
     put_dot(out)
 }

@@ -70,6 +70,7 @@ pub(crate) fn is_loose(expr: &Expr) -> bool
     ensures { result ≡ is_operator expr.now }
 {
     match &expr.node {
+        ExprNode::Int(value) => *value < 0,
         ExprNode::Apply(operation, _) => match operation {
             Operation::Unary(_) => true,
             Operation::Binary(_) => true,

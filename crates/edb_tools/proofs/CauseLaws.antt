@@ -4,14 +4,13 @@ use Rattle.std.proofs.Common.{◌≡◌, ◌∙◌, inl, inr, ℕ, zero, suc, �
 use Rattle.std.proofs.lemmas.List.{append_cancel_left}
 use Rattle.edb_io.specs.declared.reading.FileRead.{FileRead}
 use Rattle.edb_io.specs.Reads.{file_read}
-use Rattle.edb_scan.proofs.OneParting.{faults_one, tokens_or_fault}
-use Rattle.edb_tools.specs.declared.ending.ModuleFault.{ModuleFault}
-use Rattle.edb_tools.specs.declared.ending.ModuleFault.TheVariants.{Scan}
+use Rattle.edb_verdict.specs.declared.fault.ModuleFault.{ModuleFault}
+use Rattle.edb_verdict.proofs.OneVerdict.{accepted_or_fault, fault_one}
 use Rattle.edb_tools.specs.declared.ending.ToolEnd.{ToolEnd}
 use Rattle.edb_tools.specs.declared.ending.ToolEnd.TheVariants.{Done, Words, FileFault, ModuleRefused, WriteFault, NoMemory}
 use Rattle.edb_tools.specs.Plans.{Plan, names_of}
 use Rattle.edb_tools.specs.Reads.{AreRead, FailsAt, most_bytes, name_at, reads_of}
-use Rattle.edb_tools.specs.Verdicts.{IsAccepted, HasFault, AreAccepted, FirstFault, Accepts, Refuses}
+use Rattle.edb_tools.specs.Verdicts.{AreAccepted, FirstFault, Accepts, Refuses}
 use Rattle.edb_tools.specs.Ends.{HasCause, IsWritten}
 use Rattle.edb_tools.specs.Causes.{RefusalComes, DoneComes}
 
@@ -48,23 +47,17 @@ read_or_failed names ts old new k r f =
     (append_cancel_left old _ _ (sym r.listed ∙ (f.listed ∙ append_assoc old _ _)))
 
 -- accepted texts have no fault
-accepted_or_fault : (text : List ℕ) (fault : ModuleFault) → IsAccepted text → HasFault text fault → ⊥
-accepted_or_fault text (Scan fault) a h = tokens_or_fault text a.0 fault.at a.1 h
-
 no_fault : (texts : List (List ℕ)) (k : ℕ) (fault : ModuleFault) → AreAccepted texts → FirstFault texts k fault → ⊥
 no_fault [] k fault a f = f
-no_fault (t ∷ ts) zero fault a f = accepted_or_fault t fault a.0 f
+no_fault (t ∷ ts) zero fault a f = accepted_or_fault t a.0.0 fault a.0.1 f
 no_fault (t ∷ ts) (suc k) fault a f = no_fault ts k fault a.1 f.1
 
 -- texts have one first fault
-fault_one : (text : List ℕ) (f g : ModuleFault) → HasFault text f → HasFault text g → f ≡ g
-fault_one text (Scan f) (Scan g) h i = ap (λ (at : ℕ). Scan (record { at = at })) (faults_one text f.at g.at h i)
-
 first_one : (texts : List (List ℕ)) (j k : ℕ) (f g : ModuleFault) → FirstFault texts j f → FirstFault texts k g → (j ≡ k) × (f ≡ g)
 first_one [] j k f g h i = absurd h
 first_one (t ∷ ts) zero zero f g h i = (refl, fault_one t f g h i)
-first_one (t ∷ ts) zero (suc k) f g h i = absurd (accepted_or_fault t f i.0 h)
-first_one (t ∷ ts) (suc j) zero f g h i = absurd (accepted_or_fault t g h.0 i)
+first_one (t ∷ ts) zero (suc k) f g h i = absurd (accepted_or_fault t i.0.0 f i.0.1 h)
+first_one (t ∷ ts) (suc j) zero f g h i = absurd (accepted_or_fault t h.0.0 g h.0.1 i)
 first_one (t ∷ ts) (suc j) (suc k) f g h i = let both = first_one ts j k f g h.1 i.1 in (ap suc both.0, both.1)
 
 -- what holds of a plan's value
@@ -94,14 +87,14 @@ refusal_comes plan old new before now WriteFault c p k fault is r =
     absurd (accepts_or_refuses _ old new k fault (of_some (λ (q : Plan). Accepts (names_of q) old new) plan p is c) r)
 refusal_comes plan old new before now NoMemory c p k fault is r = inr refl
 
-pub done_comes : (plan : Option Plan) (old new : List FileRead) (before now : ℕ) (written_old written_new : Option (List ℕ)) (sink_before sink_now : ℕ) (flag : Bool) (end : ToolEnd)
-    → HasCause plan old new before now end → IsWritten plan written_old written_new sink_before sink_now flag end
+pub done_comes : (plan : Option Plan) (old new : List FileRead) (before now : ℕ) (written_old written_new : Option (List ℕ)) (sink_before sink_now : ℕ) (was flag : Bool) (end : ToolEnd)
+    → HasCause plan old new before now end → IsWritten plan old new written_old written_new sink_before sink_now was flag end
     → DoneComes plan old new before now sink_before sink_now end
-done_comes plan old new before now wo wn sb sn flag Done c w p is files sink accepted = inl refl
-done_comes plan old new before now wo wn sb sn flag Words c w p is files sink accepted = absurd (cc)
-done_comes plan old new before now wo wn sb sn flag (FileFault k) c w p is files sink accepted = absurd (files c.0)
-done_comes plan old new before now wo wn sb sn flag (ModuleRefused k fault) c w p is files sink accepted =
+done_comes plan old new before now wo wn sb sn was flag Done c w p is files sink accepted = inl refl
+done_comes plan old new before now wo wn sb sn was flag Words c w p is files sink accepted = absurd (cc)
+done_comes plan old new before now wo wn sb sn was flag (FileFault k) c w p is files sink accepted = absurd (files c.0)
+done_comes plan old new before now wo wn sb sn was flag (ModuleRefused k fault) c w p is files sink accepted =
     let r : Refuses (names_of p) old new k fault = of_some (λ (q : Plan). Refuses (names_of q) old new k fault) plan p is c in
     absurd (no_fault r.texts k fault (accepted r.texts r.read) r.first)
-done_comes plan old new before now wo wn sb sn flag WriteFault c w p is files sink accepted = absurd (sink w.1)
-done_comes plan old new before now wo wn sb sn flag NoMemory c w p is files sink accepted = inr refl
+done_comes plan old new before now wo wn sb sn was flag WriteFault c w p is files sink accepted = absurd (sink w.1)
+done_comes plan old new before now wo wn sb sn was flag NoMemory c w p is files sink accepted = inr refl

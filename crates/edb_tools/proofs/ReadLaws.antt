@@ -1,9 +1,12 @@
 -- The reads of files that were read in order.
 
-use Rattle.std.proofs.Common.{◌≡◌, ◌∙◌, ℕ, zero, suc, ◌<◌, List, [], ◌∷◌, ◌++◌, length, get_or, map, Some, refl, sym, ap, append_assoc, arith}
+use Rattle.std.proofs.Common.{◌≡◌, ◌∙◌, ℕ, zero, suc, ◌<◌, List, [], ◌∷◌, ◌++◌, length, get_or, map, Some, refl, sym, ap, subst, append_assoc, arith}
 use Rattle.edb_io.specs.declared.reading.FileRead.{FileRead}
 use Rattle.edb_io.specs.Reads.{file_read}
-use Rattle.edb_tools.specs.Reads.{most_bytes, reads_of, name_at}
+use Rattle.edb_verdict.specs.declared.fault.ModuleFault.{ModuleFault}
+use Rattle.edb_verdict.specs.Verdicts.{HasFault}
+use Rattle.edb_tools.specs.Reads.{AreRead, most_bytes, reads_of, name_at}
+use Rattle.edb_tools.specs.Verdicts.{Refuses}
 
 -- one text more
 pub reads_more : {A : Type 0} (f : A → List ℕ) (xs : List A) (texts : List (List ℕ)) (x : A) (text : List ℕ)
@@ -29,3 +32,16 @@ pub name_is : {A : Type 0} (f : A → List ℕ) (xs : List A) (i : ℕ) (x : A) 
 name_is f [] i x lt is = absurd (omega arith)
 name_is f (y ∷ ys) zero x lt is = ap f (sym is)
 name_is f (y ∷ ys) (suc i) x lt is = name_is f ys i x (omega arith) is
+
+-- one file was read
+pub one_read : (name text : List ℕ) (old new : List FileRead) → new ≡ old ++ file_read name most_bytes (Some text) ∷ [] → AreRead (name ∷ []) old new (text ∷ [])
+one_read name text old new listed = record { all = refl; listed = listed }
+
+-- and it has a fault
+pub refused_here : (name text bytes : List ℕ) (old new : List FileRead) (fault : ModuleFault) → bytes ≡ text
+    → new ≡ old ++ file_read name most_bytes (Some text) ∷ [] → HasFault bytes fault → Refuses (name ∷ []) old new 0 fault
+refused_here name text bytes old new fault is listed h = record {
+  texts = text ∷ [];
+  read = one_read name text old new listed;
+  first = subst (λ (t : List ℕ). HasFault t fault) is h;
+}

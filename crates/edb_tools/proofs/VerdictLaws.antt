@@ -1,18 +1,19 @@
 -- The first text with a fault.
 
 use Rattle.std.proofs.Common.{◌≡◌, ℕ, zero, suc, ◌+◌, ◌<◌, List, [], ◌∷◌, take, get_or, length, subst, add-one, arith}
-use Rattle.edb_tools.specs.declared.ending.ModuleFault.{ModuleFault}
-use Rattle.edb_tools.specs.Verdicts.{IsAccepted, HasFault, AreAccepted, FirstFault}
+use Rattle.edb_verdict.specs.declared.fault.ModuleFault.{ModuleFault}
+use Rattle.edb_verdict.specs.Verdicts.{HasFault}
+use Rattle.edb_tools.specs.Verdicts.{IsSomeModule, AreAccepted, FirstFault}
 
 accepted_suc : (texts : List (List ℕ)) (i : ℕ) (text : List ℕ) → i < length texts → text ≡ get_or texts i text
-    → AreAccepted (take i texts) → IsAccepted text → AreAccepted (take (suc i) texts)
+    → AreAccepted (take i texts) → IsSomeModule text → AreAccepted (take (suc i) texts)
 accepted_suc [] i text lt is so_far one = absurd (omega arith)
-accepted_suc (t ∷ ts) zero text lt is so_far one = (subst IsAccepted is one, tt)
+accepted_suc (t ∷ ts) zero text lt is so_far one = (subst IsSomeModule is one, tt)
 accepted_suc (t ∷ ts) (suc i) text lt is so_far one = (so_far.0, accepted_suc ts i text (omega arith) is so_far.1 one)
 
 -- one accepted text more
 pub accepted_more : (texts : List (List ℕ)) (i : ℕ) (text : List ℕ) → i < length texts → text ≡ get_or texts i text
-    → AreAccepted (take i texts) → IsAccepted text → AreAccepted (take (i + 1) texts)
+    → AreAccepted (take i texts) → IsSomeModule text → AreAccepted (take (i + 1) texts)
 accepted_more texts i text lt is so_far one = rw (add-one i) (accepted_suc texts i text lt is so_far one)
 
 -- a text with a fault behind accepted ones

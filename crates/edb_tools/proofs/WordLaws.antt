@@ -5,11 +5,11 @@ use Rattle.std.proofs.lemmas.List.{length-map}
 use Rattle.std.proofs.lemmas.List.Folds.{list_all-map}
 use Rattle.std.specs.List.{list_all}
 use Rattle.std.specs.Cmp.Lexicographic.{pointwise}
-use Rattle.edb_tools.specs.Plans.{Plan, check, is_name, plan_of, words_end}
+use Rattle.edb_tools.specs.Plans.{Plan, check, is_name, check_plan, words_end}
 
 -- the command first and then the names
 plan_is : {A : Type 0} (f : A → List ℕ) (ws : List A) (c : A) → 2 ≤ length ws → c ≡ get_or ws 0 c
-    → plan_of (map f ws) ≡ (if pointwise nat_eq (f c) (codes "check") && list_all (λ w. is_name (f w)) (drop 1 ws) && nat_lt (length ws) words_end then Some (check (map f (drop 1 ws))) else None)
+    → check_plan (map f ws) ≡ (if pointwise nat_eq (f c) (codes "check") && list_all (λ w. is_name (f w)) (drop 1 ws) && nat_lt (length ws) words_end then Some (check (map f (drop 1 ws))) else None)
 plan_is f [] c h e = absurd (omega arith)
 plan_is f (w ∷ []) c h e = absurd (omega arith)
 plan_is f (w ∷ (v ∷ vs)) c h e = rw (e, list_all-map is_name f vs, length-map vs f) refl
@@ -20,7 +20,7 @@ no_check false b c p h = refl
 
 -- a word behind the command is no name
 pub plan_none : {A : Type 0} (f : A → List ℕ) (ws names : List A) (c : A) → 2 ≤ length ws → c ≡ get_or ws 0 c → names ≡ drop 1 ws
-    → list_all (λ w. is_name (f w)) names ≡ false → None ≡ plan_of (map f ws)
+    → list_all (λ w. is_name (f w)) names ≡ false → None ≡ check_plan (map f ws)
 plan_none f ws names c h e n bad =
     no_check (pointwise nat_eq (f c) (codes "check")) (list_all (λ w. is_name (f w)) (drop 1 ws)) (nat_lt (length ws) words_end) (check (map f (drop 1 ws))) (rw n at bad)
     ∙ sym (plan_is f ws c h e)
@@ -28,5 +28,5 @@ plan_none f ws names c h e n bad =
 -- `check`, names, and few words
 pub plan_some : {A : Type 0} (f : A → List ℕ) (ws names : List A) (c : A) → 2 ≤ length ws → c ≡ get_or ws 0 c → names ≡ drop 1 ws
     → pointwise nat_eq (f c) (codes "check") ≡ true → list_all (λ w. is_name (f w)) names ≡ true → nat_lt (length ws) words_end ≡ true
-    → Some (check (map f names)) ≡ plan_of (map f ws)
+    → Some (check (map f names)) ≡ check_plan (map f ws)
 plan_some f ws names c h e n is good few = rw n (rw (plan_is f ws c h e, is, rw n at good, few) refl)

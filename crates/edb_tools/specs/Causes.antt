@@ -1,9 +1,10 @@
--- Which end comes, given its cause: each end comes exactly where its cause holds, but for want of memory.
+-- Which end comes, given its cause: Words, the refusal of a file and Done come wherever their cause holds, but for want of
+-- memory.
 
 use Rattle.std.specs.Prelude.{◌≡◌, ℕ, ◌⊎◌, List, Option, None, Some}
 use Rattle.edb_io.specs.declared.reading.FileRead.{FileRead}
 use Rattle.edb_io.specs.Faults.{Rose}
-use Rattle.edb_tools.specs.declared.ending.ModuleFault.{ModuleFault}
+use Rattle.edb_verdict.specs.declared.fault.ModuleFault.{ModuleFault}
 use Rattle.edb_tools.specs.declared.ending.ToolEnd.{ToolEnd}
 use Rattle.edb_tools.specs.declared.ending.ToolEnd.TheVariants.{Done, Words, ModuleRefused, NoMemory}
 use Rattle.edb_tools.specs.Plans.{Plan, names_of}

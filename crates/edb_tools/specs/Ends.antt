@@ -1,17 +1,23 @@
 -- How the tool ends: the cause of each end, what it read, and what it wrote.
 
-use Rattle.std.specs.Prelude.{◌≡◌, ℕ, ◌⊎◌, Bool, true, List, [], ◌++◌, Option, None, Some, IsSomeAnd, codes}
+use Rattle.std.specs.Prelude.{◌≡◌, ℕ, ◌⊎◌, Bool, true, List, [], ◌∷◌, ◌++◌, Option, None, Some, IsSomeAnd, codes}
 use Rattle.std.specs.Fmt.{decimal}
 use Rattle.std.specs.List.{flat_map}
 use Rattle.edb_io.specs.declared.reading.FileRead.{FileRead}
 use Rattle.edb_io.specs.Faults.{Rose}
 use Rattle.edb_io.specs.Writes.{Appended, AppendedPart}
-use Rattle.edb_tools.specs.declared.ending.ModuleFault.TheVariants.{Scan}
+use Rattle.edb_syntax.specs.Syntax.{ModuleTree}
+use Rattle.edb_check.specs.declared.fault.CheckKind.{CheckKind}
+use Rattle.edb_check.specs.declared.fault.CheckKind.TheVariants as kind
+use Rattle.edb_print.specs.Layout.{text_of}
+use Rattle.edb_verdict.specs.declared.fault.ModuleFault.TheVariants.{Scan, Form, Check, NotYet}
+use Rattle.edb_verdict.specs.Verdicts.{IsAccepted}
 use Rattle.edb_tools.specs.declared.ending.ToolEnd.{ToolEnd}
 use Rattle.edb_tools.specs.declared.ending.ToolEnd.TheVariants.{Done, Words, FileFault, ModuleRefused, WriteFault, NoMemory}
 use Rattle.edb_tools.specs.declared.lines.LineWrite.{LineWrite}
+use Rattle.edb_verdict.specs.declared.fault.ModuleFault.{ModuleFault}
 use Rattle.edb_tools.specs.declared.lines.LineWrite.TheVariants as line_write
-use Rattle.edb_tools.specs.Plans.{Plan, check, names_of}
+use Rattle.edb_tools.specs.Plans.{Plan, check, format, names_of}
 use Rattle.edb_tools.specs.Reads.{AreRead, FailsAt, ReadsUp, name_at}
 use Rattle.edb_tools.specs.Verdicts.{Accepts, FirstFault, Refuses}
 
@@ -46,37 +52,91 @@ HasReads plan old new NoMemory = ReadsSome plan old new
 abbrev pub ok_line : List ℕ → List ℕ
 ok_line name = name ++ codes ": ok\n"
 
--- what Done writes
-abbrev pub output_of : Option Plan → List ℕ
-output_of None = []
-output_of (Some (check names)) = flat_map ok_line names
+-- the text is a module without faults, and this is the text of its layout
+pub record HasLayout (text out : List ℕ) : Type 0 where
+  pub tree : ModuleTree
+  pub accepted : IsAccepted text tree
+  pub laid : out ≡ text_of tree
 
--- the line of a refusal
-abbrev pub refusal_line : List (List ℕ) → ToolEnd → List ℕ
-refusal_line names Done = []
-refusal_line names Words = codes "edbtool: words\n"
-refusal_line names (FileFault k) = (codes "edbtool: cannot read " ++ name_at names k) ++ codes "\n"
-refusal_line names (ModuleRefused k (Scan fault)) = ((name_at names k ++ codes ": scan fault at byte ") ++ decimal fault.at) ++ codes "\n"
-refusal_line names WriteFault = []
-refusal_line names NoMemory = []
+-- the file was read, and this is its layout
+pub record IsLaidOut (name : List ℕ) (old new : List FileRead) (out : List ℕ) : Type 0 where
+  pub text : List ℕ
+  pub read : AreRead (name ∷ []) old new (text ∷ [])
+  pub layout : HasLayout text out
+
+-- what Done writes: the line of each file, where all are accepted; or the text of the file's module
+abbrev pub Prints : Plan → List FileRead → List FileRead → List ℕ → Type 0
+Prints (check names) old new out = Accepts names old new × (out ≡ flat_map ok_line names)
+Prints (format name) old new out = IsLaidOut name old new out
+
+-- the words of the kinds of faults
+abbrev pub kind_text : CheckKind → List ℕ
+kind_text kind.Unbound = codes "unbound"
+kind_text kind.Unsafe = codes "unsafe"
+kind_text kind.Sibling = codes "sibling"
+kind_text kind.Float = codes "float"
+kind_text kind.Undefined = codes "undefined"
+kind_text kind.Duplicate = codes "duplicate"
+kind_text kind.NotExported = codes "not_exported"
+kind_text kind.BadGuard = codes "bad_guard"
+
+-- the line of a fault of the file with this name
+abbrev pub fault_line : List ℕ → ModuleFault → List ℕ
+fault_line name (Scan fault) = ((name ++ codes ": scan fault at byte ") ++ decimal fault.at) ++ codes "\n"
+fault_line name (Form fault) = ((((name ++ codes ": form ") ++ decimal fault.form) ++ codes " line ") ++ decimal fault.line) ++ codes "\n"
+fault_line name (Check fault) = ((((name ++ codes ": line ") ++ decimal fault.line) ++ codes " ") ++ kind_text fault.kind) ++ codes "\n"
+fault_line name NotYet = name ++ codes ": not yet\n"
+
+-- the line of a refusal, the end's file having this name
+abbrev pub refusal_line : List ℕ → ToolEnd → List ℕ
+refusal_line name Done = []
+refusal_line name Words = codes "edbtool: words\n"
+refusal_line name (FileFault k) = (codes "edbtool: cannot read " ++ name) ++ codes "\n"
+refusal_line name (ModuleRefused k fault) = fault_line name fault
+refusal_line name WriteFault = []
+refusal_line name NoMemory = []
 
 -- the names of a plan's files
 abbrev pub planned : Option Plan → List (List ℕ)
 planned None = []
 planned (Some p) = names_of p
 
--- the line was written; or a part of it, where the sink's count rose, and then its flag is set
-abbrev pub IsLineWritten : List ℕ → Option (List ℕ) → Option (List ℕ) → ℕ → ℕ → Bool → Type 0
-IsLineWritten line old new before now flag = Appended old new line ⊎ (AppendedPart old new line × Rose before now × (flag ≡ true))
+-- the place of the file of an end, which is the first where it is about none
+abbrev pub file_of : ToolEnd → ℕ
+file_of Done = 0
+file_of Words = 0
+file_of (FileFault k) = k
+file_of (ModuleRefused k fault) = k
+file_of WriteFault = 0
+file_of NoMemory = 0
 
--- What was written, by what the sink had and has, by the counts of its faults and by its flag.
-abbrev pub IsWritten : Option Plan → Option (List ℕ) → Option (List ℕ) → ℕ → ℕ → Bool → ToolEnd → Type 0
-IsWritten plan old new before now flag Done = Appended old new (output_of plan)
-IsWritten plan old new before now flag Words = IsLineWritten (refusal_line (planned plan) Words) old new before now flag
-IsWritten plan old new before now flag (FileFault k) = IsLineWritten (refusal_line (planned plan) (FileFault k)) old new before now flag
-IsWritten plan old new before now flag (ModuleRefused k fault) = IsLineWritten (refusal_line (planned plan) (ModuleRefused k fault)) old new before now flag
-IsWritten plan old new before now flag WriteFault = AppendedPart old new (output_of plan) × Rose before now
-IsWritten plan old new before now flag NoMemory = AppendedPart old new (output_of plan)
+-- the name of that file
+abbrev pub name_in : Option Plan → ToolEnd → List ℕ
+name_in plan end = name_at (planned plan) (file_of end)
+
+-- the line was written, and the sink's flag is as it was; or a part of it, where the sink's count rose, and then its flag is set
+abbrev pub IsLineWritten : List ℕ → Option (List ℕ) → Option (List ℕ) → ℕ → ℕ → Bool → Bool → Type 0
+IsLineWritten line old new before now was is =
+    (Appended old new line × (is ≡ was)) ⊎ (AppendedPart old new line × Rose before now × (is ≡ true))
+
+-- all of what Done writes was written, by the lists of reads and by what the sink had and has
+abbrev pub WritesAll : Option Plan → List FileRead → List FileRead → Option (List ℕ) → Option (List ℕ) → Type 0
+WritesAll plan reads_old reads_new old new = IsSomeAnd plan (λ p. (out : List ℕ) × Prints p reads_old reads_new out × Appended old new out)
+
+-- a part of it
+abbrev pub WritesPart : Option Plan → List FileRead → List FileRead → Option (List ℕ) → Option (List ℕ) → Type 0
+WritesPart plan reads_old reads_new old new = IsSomeAnd plan (λ p. (out : List ℕ) × Prints p reads_old reads_new out × AppendedPart old new out)
+
+-- What was written, by the lists of reads, by what the sink had and has, by the counts of its faults and by its flag.
+abbrev pub IsWritten : Option Plan → List FileRead → List FileRead → Option (List ℕ) → Option (List ℕ) → ℕ → ℕ → Bool → Bool → ToolEnd → Type 0
+IsWritten plan reads_old reads_new old new before now was is Done = WritesAll plan reads_old reads_new old new
+IsWritten plan reads_old reads_new old new before now was is Words = IsLineWritten (refusal_line (name_in plan Words) Words) old new before now was is
+IsWritten plan reads_old reads_new old new before now was is (FileFault k) =
+    IsLineWritten (refusal_line (name_in plan (FileFault k)) (FileFault k)) old new before now was is
+IsWritten plan reads_old reads_new old new before now was is (ModuleRefused k fault) =
+    IsLineWritten (refusal_line (name_in plan (ModuleRefused k fault)) (ModuleRefused k fault)) old new before now was is
+IsWritten plan reads_old reads_new old new before now was is WriteFault = WritesPart plan reads_old reads_new old new × Rose before now
+IsWritten plan reads_old reads_new old new before now was is NoMemory = Appended old new [] ⊎ WritesPart plan reads_old reads_new old new
 
 -- the flag is as it was, or set
 abbrev pub IsNotCleared : Bool → Bool → Type 0
@@ -119,6 +179,6 @@ IsVerdict texts WriteFault = ⊥
 IsVerdict texts NoMemory = Unit {0}
 
 -- How the write of a refusal's line goes: it was tried, or memory was refused and nothing was written.
-abbrev pub TriesLine : List ℕ → Option (List ℕ) → Option (List ℕ) → ℕ → ℕ → Bool → LineWrite → Type 0
-TriesLine line old new before now flag line_write.Tried = IsLineWritten line old new before now flag
-TriesLine line old new before now flag line_write.NoMemory = new ≡ old
+abbrev pub TriesLine : List ℕ → Option (List ℕ) → Option (List ℕ) → ℕ → ℕ → Bool → Bool → LineWrite → Type 0
+TriesLine line old new before now was is line_write.Tried = IsLineWritten line old new before now was is
+TriesLine line old new before now was is line_write.NoMemory = new ≡ old

@@ -1,4 +1,5 @@
 pub mod Plans
+pub mod Views
 pub mod Reads
 pub mod Verdicts
 pub mod Ends

@@ -1,31 +1,26 @@
 -- Which texts are accepted, and which is the first that isn't.
 
 use Rattle.std.specs.Prelude.{ℕ, zero, suc, List, [], ◌∷◌}
-use Rattle.edb_scan.specs.declared.lexeme.Placed.{Placed}
-use Rattle.edb_scan.specs.Parting.{AreTokens, IsFault}
+use Rattle.edb_syntax.specs.Syntax.{ModuleTree}
 use Rattle.edb_io.specs.declared.reading.FileRead.{FileRead}
-use Rattle.edb_tools.specs.declared.ending.ModuleFault.{ModuleFault}
-use Rattle.edb_tools.specs.declared.ending.ModuleFault.TheVariants.{Scan}
+use Rattle.edb_verdict.specs.declared.fault.ModuleFault.{ModuleFault}
+use Rattle.edb_verdict.specs.Verdicts.{IsAccepted, HasFault}
 use Rattle.edb_tools.specs.Reads.{AreRead}
 
--- the text has tokens
-abbrev pub IsAccepted : List ℕ → Type 0
-IsAccepted text = (tokens : List Placed) × AreTokens text tokens
+-- the text is a module without faults
+abbrev pub IsSomeModule : List ℕ → Type 0
+IsSomeModule text = (m : ModuleTree) × IsAccepted text m
 
--- the text has this fault
-abbrev pub HasFault : List ℕ → ModuleFault → Type 0
-HasFault text (Scan fault) = IsFault text fault.at
-
--- each text is accepted
+-- each text is one
 abbrev pub AreAccepted : List (List ℕ) → Type 0
 AreAccepted [] = Unit {0}
-AreAccepted (text ∷ texts) = IsAccepted text × AreAccepted texts
+AreAccepted (text ∷ texts) = IsSomeModule text × AreAccepted texts
 
 -- the texts before text k are accepted, and it has this fault
 abbrev pub FirstFault : List (List ℕ) → ℕ → ModuleFault → Type 0
 FirstFault [] k fault = ⊥
 FirstFault (text ∷ texts) zero fault = HasFault text fault
-FirstFault (text ∷ texts) (suc k) fault = IsAccepted text × FirstFault texts k fault
+FirstFault (text ∷ texts) (suc k) fault = IsSomeModule text × FirstFault texts k fault
 
 -- all files were read and accepted
 pub record Accepts (names : List (List ℕ)) (old new : List FileRead) : Type 0 where

@@ -1,13 +1,6 @@
 //! How the tool ends.
 
-use edb_scan::ScanFault;
-
-/// Why a file was refused.
-#[derive(Clone, Copy, PartialEq, Eq, Debug)]
-pub enum ModuleFault {
-    /// At this byte no token, white space or comment begins.
-    Scan(ScanFault),
-}
+use edb_verdict::ModuleFault;
 
 /// How a run of the tool ended. Files are counted from 0, in the order of the words.
 #[derive(Clone, Copy, PartialEq, Eq, Debug)]

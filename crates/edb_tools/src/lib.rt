@@ -1,8 +1,10 @@
-//! The tool that works on files without the debugger. So far it checks them: it scans each file and
-//! says of each that it is ok, or which is the first with a fault.
+//! The tool that works on files without the debugger. It checks files and says of each that it is ok, or which is
+//! the first with a fault; and it lays out the module of a file.
 #![tactic(auto)]
 
 mod ending;
+#[cfg(test)]
+mod layouts;
 mod lines;
 mod sources;
 #[cfg(test)]
@@ -10,5 +12,5 @@ mod tests;
 mod top;
 mod words;
 
-pub use ending::{ModuleFault, ToolEnd};
+pub use ending::ToolEnd;
 pub use top::tool;

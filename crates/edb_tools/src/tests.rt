@@ -1,18 +1,29 @@
 //! Runs of the tool over memory, with what they write.
 
+use crate::layouts::SHOP;
 use crate::{ToolEnd, tool};
 use edb_io::{Files, MemFiles, MemSink, Sink};
 use std::alloc::{AllocError, Global};
 use std::test::Fail;
-
-const SHOP: &[u8] =
-    b"-module(shop).\n-export([main/0]).\nmain() ->\n    X = sum(2, 3),\n    erlang:display(X).\nsum(A, B) ->\n    C = A + B,\n    C.\n";
 
 /// A string that isn't closed, at byte 12.
 const OPEN: &[u8] = b"-module(a).\n\"x";
 
 /// A string directly behind a string, at byte 22.
 const JOINED: &[u8] = b"-module(a).\nf() -> \"a\"\"b\".";
+
+/// The first four lines of a module, of which the last function is cut short.
+const CUT: &[u8] = b"-module(shop).\n-export([main/0]).\nmain() ->\n    X = sum(2, 3),\n";
+
+/// A call of a call, which is none.
+const CALLED: &[u8] = b"-module(a).\nf() -> g(1)(2).\n";
+
+/// `B` is bound in one clause alone.
+const UNSAFE: &[u8] =
+    b"-module(a).\n-export([f/1]).\nf(A) ->\n    case A of\n        1 -> B = 2;\n        _ -> C = 3\n    end,\n    B.\n";
+
+/// Two strings in a row, which are one, in a function that nothing calls.
+const STRINGS: &[u8] = b"-module(a).\nf() -> \"a\" \"b\".\n";
 
 /// One run: its words, the content of `a.erl`, the read and the write that fail, and what is wanted.
 #[derive(Clone, Copy)]
@@ -50,7 +61,7 @@ fn is_as_wanted(alloc: Global, row: &Row<'_>) -> Result<bool, AllocError> {
     let mut files = MemFiles::new(alloc);
     files.add("a.erl", row.content)?;
     files.add("shop.erl", SHOP)?;
-    files.add("empty.erl", b"")?;
+    files.add("small.erl", b"-module(small).\n")?;
     files.fail(row.failing_read)?;
     let mut sink = MemSink::new(alloc);
     sink.fail(row.failing_write)?;
@@ -86,11 +97,11 @@ fn ends_and_writes(rt: HostRuntime) -> Result<(), Fail> {
     let rows = [
         make_row(&["check", "shop.erl"], OPEN, 0, None, b"shop.erl: ok\n"),
         make_row(
-            &["check", "shop.erl", "empty.erl"],
+            &["check", "shop.erl", "small.erl"],
             OPEN,
             0,
             None,
-            b"shop.erl: ok\nempty.erl: ok\n",
+            b"shop.erl: ok\nsmall.erl: ok\n",
         ),
         make_row(
             &["check", "a.erl"],
@@ -107,6 +118,27 @@ fn ends_and_writes(rt: HostRuntime) -> Result<(), Fail> {
             b"a.erl: scan fault at byte 22\n",
         ),
         make_row(
+            &["check", "a.erl"],
+            b"",
+            4,
+            Some(0),
+            b"a.erl: form 1 line 1\n",
+        ),
+        make_row(
+            &["check", "a.erl"],
+            CUT,
+            4,
+            Some(0),
+            b"a.erl: form 3 line 3\n",
+        ),
+        make_row(
+            &["check", "small.erl", "a.erl"],
+            CALLED,
+            4,
+            Some(1),
+            b"a.erl: form 2 line 2\n",
+        ),
+        make_row(
             &["check", "shop.erl", "a.erl"],
             OPEN,
             4,
@@ -121,7 +153,44 @@ fn ends_and_writes(rt: HostRuntime) -> Result<(), Fail> {
             b"a.erl: scan fault at byte 12\n",
         ),
         make_row(&[], OPEN, 2, None, b"edbtool: words\n"),
-        make_row(&["fmt", "x"], OPEN, 2, None, b"edbtool: words\n"),
+        make_row(
+            &["check", "a.erl"],
+            UNSAFE,
+            4,
+            Some(0),
+            b"a.erl: line 8 unsafe\n",
+        ),
+        make_row(
+            &["fmt", "a.erl"],
+            UNSAFE,
+            4,
+            Some(0),
+            b"a.erl: line 8 unsafe\n",
+        ),
+        make_row(&["fmt", "shop.erl"], OPEN, 0, None, SHOP),
+        make_row(
+            &["fmt", "a.erl"],
+            STRINGS,
+            0,
+            None,
+            b"-module(a).\nf() ->\n    \"ab\".\n",
+        ),
+        make_row(
+            &["fmt", "none.erl"],
+            OPEN,
+            3,
+            Some(0),
+            b"edbtool: cannot read none.erl\n",
+        ),
+        make_row(&["fmt"], OPEN, 2, None, b"edbtool: words\n"),
+        make_row(&["fmt", "-x"], OPEN, 2, None, b"edbtool: words\n"),
+        make_row(
+            &["fmt", "shop.erl", "small.erl"],
+            OPEN,
+            2,
+            None,
+            b"edbtool: words\n",
+        ),
         make_row(&["check"], OPEN, 2, None, b"edbtool: words\n"),
         make_row(&["check", "-x"], OPEN, 2, None, b"edbtool: words\n"),
         make_row(
@@ -161,13 +230,13 @@ fn ends_and_writes(rt: HostRuntime) -> Result<(), Fail> {
 
 #[test]
 fn faults_end_it(rt: HostRuntime) -> Result<(), Fail> {
-    let two: [&str; 3] = ["check", "shop.erl", "empty.erl"];
+    let two: [&str; 3] = ["check", "shop.erl", "small.erl"];
     let rows: [(u32, u32, u8, Option<u32>, &[u8]); 6] = [
         (0, 1, 7, None, b""),
         (0, 2, 7, None, b"shop.erl: ok\n"),
-        (0, 3, 0, None, b"shop.erl: ok\nempty.erl: ok\n"),
+        (0, 3, 0, None, b"shop.erl: ok\nsmall.erl: ok\n"),
         (1, 0, 3, Some(0), b"edbtool: cannot read shop.erl\n"),
-        (2, 0, 3, Some(1), b"edbtool: cannot read empty.erl\n"),
+        (2, 0, 3, Some(1), b"edbtool: cannot read small.erl\n"),
         // A fault of the write of a refusal's line changes nothing in the end.
         (2, 1, 3, Some(1), b""),
     ];

@@ -1,5 +1,5 @@
 //! `edbtool check FILE...`: checks files and says of each that it is ok, or which is the first that
-//! isn't; the status is 0 where all are ok.
+//! isn't; the status is 0 where all are ok. `edbtool fmt FILE`: writes the layout of the file's module.
 #![tactic(auto)]
 
 use edb_io::{DiskFiles, StdSink};

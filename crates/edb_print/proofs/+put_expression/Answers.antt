@@ -1,4 +1,4 @@
-use Rattle.std.proofs.Common.{rules, ◌≡◌, ◌<◌, ◌++◌, eqb, true, false, length, drop, sym, ◌∙◌, ap, append-nil, arith}
+use Rattle.std.proofs.Common.{rules, ◌≡◌, ◌<◌, ◌++◌, eqb, eqb-true, true, false, refl, length, drop, sym, ◌∙◌, ap, append-nil, arith}
 use Rattle.edb_scan.specs.declared.lexeme.Mark.TheVariants as mark
 use Rattle.edb_syntax.specs.declared.operation.Operation.TheVariants as operation
 use Rattle.edb_syntax.specs.Syntax.{apply, and_also, or_else, exps_of, guards_of, catches_of}
@@ -6,7 +6,7 @@ use Rattle.edb_print.specs.Pieces.{tight, blank, line, sign, piece_text, bytes_o
 use Rattle.edb_print.specs.Layout.{is_operator, is_open, grouped, lay, lay_guard, lay_when, lay_catch}
 use Rattle.edb_print.specs.Parts.{tail_left, lay_behind, lay_arguments, lay_handlers}
 use Rattle.edb_print.specs.Views.{gap_of}
-use Rattle.edb_print.proofs.Laid.{ends2, ends2_each, ends3_each, ends4_each, catch_text, of_block, when_text, one_up, two_up, unary_text, fun_call_text, remote_text, few_infix, few_remote, tail_text, items_end, items_step, tail_step, and_text, or_text}
+use Rattle.edb_print.proofs.Laid.{ends2, ends2_each, ends3_each, ends4_each, catch_text, of_block, when_text, one_up, two_up, unary_text, fun_call_text, remote_text, few_infix, few_remote, none_laid, few_each, tail_text, items_end, items_step, tail_step, and_text, or_text}
 use Rattle.edb_print.proofs.+put_expression.Goals as goal
 
 pub clauses::put_catch-returns : goal.clauses::put_catch-returns
@@ -75,12 +75,36 @@ expressions::put_remote_call-returns-in_ok-put_callee-in-len2-up-2 t c =
 pub expressions::put_infix-returns-in_default : goal.expressions::put_infix-returns-in_default
 expressions::put_infix-returns-in_default t c =
     let few : length c.args.operands.now < 2 = omega arith in
-    few_infix c.args.out.now.items (gap_of c.args.gap) c.args.depth c.args.mark c.args.operands.now few
+    rw (few_infix (gap_of c.args.gap) c.args.depth c.args.mark c.args.operands.now few) c.put_braces.ensures
 
 pub expressions::put_remote_call-returns-in_default : goal.expressions::put_remote_call-returns-in_default
 expressions::put_remote_call-returns-in_default t c =
     let few : length c.args.operands.now < 2 = omega arith in
-    λ l. few_remote c.args.out.now.items (gap_of c.args.gap) c.args.depth l c.args.operands.now few
+    few_each c.put_braces.result c.args.out.now.items c.put_braces.new.out.items (gap_of c.args.gap) c.args.depth operation.RemoteCall
+    (exps_of c.args.operands.now) (λ l. few_remote (gap_of c.args.gap) c.args.depth l c.args.operands.now few) c.put_braces.ensures
+
+pub expressions::put_fun_call-returns-in_default : goal.expressions::put_fun_call-returns-in_default
+expressions::put_fun_call-returns-in_default t c =
+    let few : length c.args.operands.now < 1 = omega arith in
+    few_each c.put_braces.result c.args.out.now.items c.put_braces.new.out.items (gap_of c.args.gap) c.args.depth operation.FunCall
+    (exps_of c.args.operands.now) (λ l. none_laid (gap_of c.args.gap) c.args.depth l operation.FunCall c.args.operands.now few refl)
+    c.put_braces.ensures
+
+pub expressions::put_unary-returns-in_default : goal.expressions::put_unary-returns-in_default
+expressions::put_unary-returns-in_default t c =
+    let few : length c.args.operands.now < 1 = omega arith in
+    few_each c.put_braces.result c.args.out.now.items c.put_braces.new.out.items (gap_of c.args.gap) c.args.depth (operation.Unary c.args.op)
+    (exps_of c.args.operands.now) (λ l. none_laid (gap_of c.args.gap) c.args.depth l (operation.Unary c.args.op) c.args.operands.now few refl)
+    c.put_braces.ensures
+
+pub expressions::put_list_with_tail-returns-then-is_empty : goal.expressions::put_list_with_tail-returns-then-is_empty
+expressions::put_list_with_tail-returns-then-is_empty t c =
+    let empty : eqb (length c.args.operands.now) 0 ≡ true = search rules in
+    let none = eqb-true (length c.args.operands.now) 0 empty in
+    few_each c.put_braces.result c.args.out.now.items c.put_braces.new.out.items (gap_of c.args.gap) c.args.depth operation.ListWithTail
+    (exps_of c.args.operands.now)
+    (λ l. none_laid (gap_of c.args.gap) c.args.depth l operation.ListWithTail c.args.operands.now (omega (arith, none)) refl)
+    c.put_braces.ensures
 
 pub expressions::put_list_with_tail-returns : goal.expressions::put_list_with_tail-returns
 expressions::put_list_with_tail-returns t c =

@@ -7,7 +7,8 @@ use Rattle.edb_grammar.proofs.LiteralSound.{term_within}
 use Rattle.edb_parse.specs.Cursors.{toks}
 use Rattle.edb_parse.proofs.Passing.{passed_on}
 use Rattle.edb_parse.proofs.LiteralTies.{term_level, terms_gathered}
-use Rattle.edb_parse.proofs.Turns.{above, fewer, moves_on, going_start, going_next, going_fails, going_ends}
+use Rattle.edb_parse.proofs.PatternTies.{above}
+use Rattle.edb_parse.proofs.Turns.{fewer, moves_on, going_start, going_next, going_fails, going_ends}
 use Rattle.edb_parse.proofs.literals.+literal.Goals as goal
 
 pub list_end-list_of-requires-2 : goal.list_end-list_of-requires-2

@@ -8,4 +8,4 @@ returns-clause-refusal_comes g c = refusal_comes (plan_of (map string_bytes c.ar
 
 pub returns-clause-done_comes : goal.returns-clause-done_comes
 returns-clause-done_comes g c =
-    done_comes (plan_of (map string_bytes c.args.words.now)) _ _ _ _ _ _ _ _ _ _ c.run_tool.ensures.cause c.run_tool.ensures.written
+    done_comes (plan_of (map string_bytes c.args.words.now)) _ _ _ _ _ _ _ _ _ _ _ c.run_tool.ensures.cause c.run_tool.ensures.written
