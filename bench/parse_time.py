@@ -6,14 +6,16 @@ crates/edbtool leaves there. Prints for each file the processor seconds of the f
 peak memory in MB.
 
 What stands at the front of an expression is read as a pattern first, for `=`, and only where no `=` is
-behind it as an expression. So a list in lists is read once for each list that it stands in: the time
-is the depth, at most 200, times the length. Where the pattern has `=` in each of its lists, its left
-sides are measured each time too: that takes depth times depth times length.
+behind it as an expression. So what stands in lists or tuples is read once more for each of them: the
+time is the depth, at most 200, times the length. Where there is `=` in the lists, the depth of each left
+side is measured each time too: that takes depth times depth times length.
 """
 
 import os
 import sys
 import tempfile
+
+from check_time import functions_text, run_once
 
 FUNCTION = """
 %% Serves till {n}, and says what is missing.
@@ -39,16 +41,7 @@ serve_{n}(Sum, []) ->
 
 def ordinary(size):
     """Functions, one like the other."""
-    parts = ["-module(till).\n-export([serve_1/2]).\n"]
-    length = len(parts[0])
-    number = 1
-    while True:
-        function = FUNCTION.format(n=number)
-        length += len(function)
-        if length > size:
-            return "".join(parts)
-        parts.append(function)
-        number += 1
+    return functions_text("-module(till).\n-export([serve_1/2]).\n", FUNCTION, size)
 
 
 def nested(size, lists, matches):
@@ -59,25 +52,13 @@ def nested(size, lists, matches):
     return front + "a" + ",a" * count + end
 
 
-def run_once(program, name):
-    """The processor seconds and the peak memory in MB of one run."""
-    child = os.fork()
-    if child == 0:
-        os.dup2(os.open(os.devnull, os.O_WRONLY), 1)
-        os.execv(program, [program, "check", name])
-    _, status, usage = os.wait4(child, 0)
-    if os.waitstatus_to_exitcode(status) != 0:
-        sys.exit(f"{program} check {name}: status {os.waitstatus_to_exitcode(status)}")
-    return usage.ru_utime + usage.ru_stime, usage.ru_maxrss / 1024
-
-
 def main():
     top = os.path.dirname(os.path.dirname(os.path.abspath(__file__)))
     program = sys.argv[1] if len(sys.argv) > 1 else os.path.join(top, "crates/edbtool/out/edbtool")
     rows = [
         ("ordinary functions", ordinary(1_000_000), 11),
-        ("a list in 198 lists", nested(1_000_000, 198, 0), 3),
-        ("the same, half of them with =", nested(1_000_000, 98, 50), 1),
+        ("a list in 197 lists", nested(1_000_000, 197, 0), 1),
+        ("a list in 50 lists with = in 97 lists", nested(1_000_000, 97, 50), 1),
     ]
     with tempfile.TemporaryDirectory() as folder:
         for what, text, times in rows:
@@ -85,9 +66,10 @@ def main():
             with open(name, "wb") as file:
                 file.write(text.encode("ascii"))
             runs = [run_once(program, name) for _ in range(times)]
-            seconds = min(run[0] for run in runs)
-            peak = max(run[1] for run in runs)
+            seconds = min(run[1] for run in runs)
+            peak = max(run[2] for run in runs)
             print(f"{what}: {len(text)} bytes, {seconds:.2f} s, {peak:.0f} MB", flush=True)
 
 
-main()
+if __name__ == "__main__":
+    main()
