@@ -1,6 +1,6 @@
 //! Bodies and guards of clauses.
 
-ghost use Rattle.std.specs.Prelude.{◌≡◌, ◌≤◌, IfOk};
+ghost use Rattle.std.specs.Prelude.{◌≡◌, ◌≤◌, ◌++◌, ◌∷◌, [], IfOk};
 ghost use Rattle.edb_syntax.specs.Syntax.{exps_of, guards_of};
 ghost use Rattle.edb_grammar.specs.ExpressionReading as reading;
 ghost use Rattle.edb_parse.specs.Cursors.{toks, Fits, Moves};
@@ -13,7 +13,7 @@ use crate::lists::all;
 use crate::unread::Unread;
 use edb_scan::Mark;
 use edb_syntax::{Alternative, Expr, Guard, GuardTest, Sequence};
-use std::alloc::Global;
+use std::alloc::{AllocError, Global};
 
 /// A body: expressions with commas between them.
 #[cycle(expression)]
@@ -36,6 +36,26 @@ pub fn body<'a>(
     Ok((Sequence { first, rest: exprs }, rest))
 }
 
+/// The test that this expression is, alone; refused only for want of memory.
+fn one_test(alloc: Global, expr: Box<Expr>) -> Result<Vec<GuardTest>, AllocError>
+    ensures items { IfOk result (λ v. v.items ≡ expr.value ∷ []) }
+{
+    let mut tests = Vec::new(alloc);
+    add_test(&mut tests, expr)?;
+    Ok(tests)
+}
+
+/// Puts the test that this expression is behind those; refused only for want of memory.
+#[inline(never)]
+fn add_test(tests: &mut Vec<GuardTest>, next: Box<Expr>) -> Result<(), AllocError>
+    ensures items { IfOk result (λ _. tests.new.items ≡ tests.old.items ++ (next.value ∷ [])) }
+{
+    tests.push(GuardTest {
+        expr: Box::into_inner(next),
+    })?;
+    Ok(())
+}
+
 /// The tests of an alternative, with commas between them, one at least.
 #[cycle(expression)]
 fn tests<'a>(
@@ -49,11 +69,11 @@ fn tests<'a>(
     ensures moves { IfOk result (λ x. Moves tokens.entry x.1) }
 {
     let (first, behind) = expression(alloc, levels, brackets, 10, tokens)?;
-    let mut tests = Vec::from_array(alloc, [GuardTest { expr: first }])?;
+    let mut tests = one_test(alloc, first)?;
     let mut rest = behind;
     while let Some(after) = rest.behind(Mark::Comma) {
         let (next, behind) = expression(alloc, levels, brackets, 10, after)?;
-        tests.push(GuardTest { expr: next })?;
+        add_test(&mut tests, next)?;
         rest = behind;
     }
     Ok((Alternative { tests }, rest))

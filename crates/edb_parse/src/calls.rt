@@ -2,13 +2,16 @@
 
 ghost use Rattle.std.specs.Prelude.{◌≡◌, IfOk, IfSome};
 ghost use Rattle.std.specs.Option.{option_map};
+ghost use Rattle.edb_syntax.specs.Forms.{unary as unary_tree};
 ghost use Rattle.edb_syntax.specs.Syntax.{exps_of};
 ghost use Rattle.edb_grammar.specs.Operators.{prefix_of};
+ghost use Rattle.edb_grammar.specs.Reading.{made};
 ghost use Rattle.edb_grammar.specs.ExpressionReading as reading;
 ghost use Rattle.edb_parse.specs.Cursors.{toks, Fits, Moves, Stays};
 ghost use Rattle.edb_parse.specs.Descent.{inside, called_of, local_of, remote_of};
-ghost use Rattle.edb_parse.specs.Gives.{Gives, GivesTree};
+ghost use Rattle.edb_parse.specs.Gives.{Gives};
 
+use crate::boxes::{call_of, unary};
 use crate::cursor::Cursor;
 use crate::expressions::expression;
 use crate::keeping::{beside, both_fitting, close, fitting};
@@ -56,18 +59,33 @@ pub fn operand<'a>(
     levels: u32,
     brackets: u32,
     tokens: Cursor<'a>,
-) -> Result<(Expr, Cursor<'a>), Unread>
+) -> Result<(Box<Expr>, Cursor<'a>), Unread>
     requires fits { Fits tokens }
-    ensures gives { GivesTree result (reading.read_operand brackets levels (reading.read_expression levels) (inside levels brackets) (toks tokens.entry)) }
+    ensures gives { Gives (λ e. e.value) result (reading.read_operand brackets levels (reading.read_expression levels) (inside levels brackets) (toks tokens.entry)) }
     ensures moves { IfOk result (λ x. Moves tokens.entry x.1) }
 {
     match prefix(tokens) {
-        Some((op, after)) => {
-            let (operand, rest) = expression(alloc, levels, brackets, 2, after)?;
-            Ok((Expr::unary(alloc, tokens.line(), op, operand)?, rest))
-        }
+        Some((op, after)) => prefixed(alloc, levels, brackets, tokens.line(), op, after),
         None => call(alloc, levels, brackets, tokens),
     }
+}
+
+/// An operator on this line, which was read, and its operand.
+#[cycle(expression)]
+fn prefixed<'a>(
+    alloc: Global,
+    levels: u32,
+    brackets: u32,
+    line: u32,
+    op: UnaryOp,
+    tokens: Cursor<'a>,
+) -> Result<(Box<Expr>, Cursor<'a>), Unread>
+    requires fits { Fits tokens }
+    ensures gives { Gives (λ e. e.value) result (made (unary_tree line op) (reading.read_expression levels brackets 2 (toks tokens.entry))) }
+    ensures moves { IfOk result (λ x. Moves tokens.entry x.1) }
+{
+    let (operand, rest) = expression(alloc, levels, brackets, 2, tokens)?;
+    Ok((unary(alloc, line, op, operand)?, rest))
 }
 
 /// What stands by itself, or a call of it.
@@ -77,9 +95,9 @@ fn call<'a>(
     levels: u32,
     brackets: u32,
     tokens: Cursor<'a>,
-) -> Result<(Expr, Cursor<'a>), Unread>
+) -> Result<(Box<Expr>, Cursor<'a>), Unread>
     requires fits { Fits tokens }
-    ensures gives { GivesTree result (reading.read_call brackets levels (reading.read_expression levels) (inside levels brackets) (toks tokens.entry)) }
+    ensures gives { Gives (λ e. e.value) result (reading.read_call brackets levels (reading.read_expression levels) (inside levels brackets) (toks tokens.entry)) }
     ensures moves { IfOk result (λ x. Moves tokens.entry x.1) }
 {
     let (callee, after) = primary(alloc, levels, brackets, tokens)?;
@@ -93,11 +111,11 @@ fn called<'a>(
     levels: u32,
     brackets: u32,
     line: u32,
-    callee: Expr,
+    callee: Box<Expr>,
     tokens: Cursor<'a>,
-) -> Result<(Expr, Cursor<'a>), Unread>
+) -> Result<(Box<Expr>, Cursor<'a>), Unread>
     requires fits { Fits tokens }
-    ensures gives { GivesTree result (called_of levels brackets line callee (toks tokens.entry)) }
+    ensures gives { Gives (λ e. e.value) result (called_of levels brackets line callee.value (toks tokens.entry)) }
     ensures stays { IfOk result (λ x. Stays tokens.entry x.1) }
 {
     match tokens.behind(Mark::ParenOpen) {
@@ -116,16 +134,16 @@ fn local_call<'a>(
     levels: u32,
     brackets: u32,
     line: u32,
-    callee: Expr,
+    callee: Box<Expr>,
     tokens: Cursor<'a>,
-) -> Result<(Expr, Cursor<'a>), Unread>
+) -> Result<(Box<Expr>, Cursor<'a>), Unread>
     requires fits { Fits tokens }
-    ensures gives { GivesTree result (local_of levels brackets line callee (toks tokens.entry)) }
+    ensures gives { Gives (λ e. e.value) result (local_of levels brackets line callee.value (toks tokens.entry)) }
     ensures moves { IfOk result (λ x. Moves tokens.entry x.1) }
 {
     let callee = fitting(callee, levels)?;
     let (callee, args, rest) = beside(callee, arguments(alloc, levels, brackets, tokens))?;
-    Ok((Expr::call(line, callee, args)?, rest))
+    Ok((call_of(alloc, line, None, callee, args)?, rest))
 }
 
 /// The call of a function of this module, on this line, behind the colon.
@@ -135,11 +153,11 @@ fn remote_call<'a>(
     levels: u32,
     brackets: u32,
     line: u32,
-    home: Expr,
+    home: Box<Expr>,
     tokens: Cursor<'a>,
-) -> Result<(Expr, Cursor<'a>), Unread>
+) -> Result<(Box<Expr>, Cursor<'a>), Unread>
     requires fits { Fits tokens }
-    ensures gives { GivesTree result (remote_of levels brackets line home (toks tokens.entry)) }
+    ensures gives { Gives (λ e. e.value) result (remote_of levels brackets line home.value (toks tokens.entry)) }
     ensures moves { IfOk result (λ x. Moves tokens.entry x.1) }
 {
     let (home, name, after) = beside(home, primary(alloc, levels, brackets, tokens))?;
@@ -147,7 +165,7 @@ fn remote_call<'a>(
     let names = both_fitting(names, levels)?;
     let (names, args, rest) = beside(names, arguments(alloc, levels, brackets, behind))?;
     let (home, name) = names;
-    Ok((Expr::remote_call(alloc, line, home, name, args)?, rest))
+    Ok((call_of(alloc, line, Some(home), name, args)?, rest))
 }
 
 /// The arguments of a call behind its parenthesis, for which one round bracket has to be left.

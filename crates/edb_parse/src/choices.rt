@@ -8,9 +8,10 @@ ghost use Rattle.edb_grammar.specs.ExpressionReading as reading;
 ghost use Rattle.edb_parse.specs.Cursors.{toks, at_place, Fits, Moves, Stays};
 ghost use Rattle.edb_parse.specs.Descent.{part};
 ghost use Rattle.edb_parse.specs.Choosing.{case_at, if_at};
-ghost use Rattle.edb_parse.specs.Gives.{Gives, GivesTree};
+ghost use Rattle.edb_parse.specs.Gives.{Gives};
 
 use crate::bodies::body;
+use crate::boxes::built;
 use crate::clauses::{Head, clauses};
 use crate::cursor::{Cursor, Place};
 use crate::expressions::expression;
@@ -29,18 +30,17 @@ pub fn case<'a>(
     brackets: u32,
     place: Place,
     tokens: Cursor<'a>,
-) -> Result<(Expr, Cursor<'a>), Unread>
+) -> Result<(Box<Expr>, Cursor<'a>), Unread>
     requires fits { Fits tokens }
-    ensures gives { GivesTree result (case_at levels brackets (at_place place) (toks tokens.entry)) }
+    ensures gives { Gives (λ e. e.value) result (case_at levels brackets (at_place place) (toks tokens.entry)) }
     ensures moves { IfOk result (λ x. Moves tokens.entry x.1) }
 {
     let (value, behind) = expression(alloc, levels, brackets, 10, tokens)?;
     let (value, after) = close(value, behind, Mark::Of)?;
-    let value = Box::new(alloc, value)?;
     let (clauses, behind) = clauses(alloc, levels, brackets, Head::Pattern, after)?;
     let rest = behind.expect(Mark::End)?;
     let node = ExprNode::Case(value, clauses);
-    Ok((Expr::new(place.line, node), rest))
+    built(alloc, place.line, node, rest)
 }
 
 /// `if .. end`, of which `if` was read.
@@ -51,14 +51,14 @@ pub fn conditions<'a>(
     brackets: u32,
     place: Place,
     tokens: Cursor<'a>,
-) -> Result<(Expr, Cursor<'a>), Unread>
+) -> Result<(Box<Expr>, Cursor<'a>), Unread>
     requires fits { Fits tokens }
-    ensures gives { GivesTree result (if_at levels brackets (at_place place) (toks tokens.entry)) }
+    ensures gives { Gives (λ e. e.value) result (if_at levels brackets (at_place place) (toks tokens.entry)) }
     ensures moves { IfOk result (λ x. Moves tokens.entry x.1) }
 {
     let (clauses, behind) = clauses(alloc, levels, brackets, Head::Guard, tokens)?;
     let rest = behind.expect(Mark::End)?;
-    Ok((Expr::new(place.line, ExprNode::If(clauses)), rest))
+    built(alloc, place.line, ExprNode::If(clauses), rest)
 }
 
 /// `receive .. end` or `receive .. after .. end`, of which `receive` was read.
@@ -69,9 +69,9 @@ pub fn receive<'a>(
     brackets: u32,
     place: Place,
     tokens: Cursor<'a>,
-) -> Result<(Expr, Cursor<'a>), Unread>
+) -> Result<(Box<Expr>, Cursor<'a>), Unread>
     requires fits { Fits tokens }
-    ensures gives { GivesTree result (reading.read_receive levels (part levels brackets) (at_place place) (toks tokens.entry)) }
+    ensures gives { Gives (λ e. e.value) result (reading.read_receive levels (part levels brackets) (at_place place) (toks tokens.entry)) }
     ensures moves { IfOk result (λ x. Moves tokens.entry x.1) }
 {
     if let Some(after) = tokens.behind(Mark::After) {
@@ -80,7 +80,8 @@ pub fn receive<'a>(
     }
     let (clauses, behind) = clauses(alloc, levels, brackets, Head::Pattern, tokens)?;
     if let Some(rest) = behind.behind(Mark::End) {
-        return Ok((Expr::new(place.line, ExprNode::Receive(clauses)), rest));
+        let node = ExprNode::Receive(clauses);
+        return built(alloc, place.line, node, rest);
     }
     let after = behind.expect(Mark::After)?;
     timeout(alloc, levels, brackets, place, clauses, after)
@@ -95,18 +96,17 @@ fn timeout<'a>(
     place: Place,
     clauses: Vec<Clause>,
     tokens: Cursor<'a>,
-) -> Result<(Expr, Cursor<'a>), Unread>
+) -> Result<(Box<Expr>, Cursor<'a>), Unread>
     requires fits { Fits tokens }
-    ensures gives { GivesTree result (reading.read_timeout (part levels brackets) (at_place place) (clauses_of clauses.items) (toks tokens.entry)) }
+    ensures gives { Gives (λ e. e.value) result (reading.read_timeout (part levels brackets) (at_place place) (clauses_of clauses.items) (toks tokens.entry)) }
     ensures moves { IfOk result (λ x. Moves tokens.entry x.1) }
 {
     let (time, behind) = expression(alloc, levels, brackets, 10, tokens)?;
     let (time, after) = close(time, behind, Mark::Arrow)?;
-    let time = Box::new(alloc, time)?;
     let (body, behind) = body(alloc, levels, brackets, after)?;
     let rest = behind.expect(Mark::End)?;
     let node = ExprNode::ReceiveAfter(clauses, time, body);
-    Ok((Expr::new(place.line, node), rest))
+    built(alloc, place.line, node, rest)
 }
 
 /// The clauses behind `of`, of which there may be none.
@@ -187,9 +187,9 @@ pub fn attempt<'a>(
     brackets: u32,
     place: Place,
     tokens: Cursor<'a>,
-) -> Result<(Expr, Cursor<'a>), Unread>
+) -> Result<(Box<Expr>, Cursor<'a>), Unread>
     requires fits { Fits tokens }
-    ensures gives { GivesTree result (reading.read_try levels (part levels brackets) (at_place place) (toks tokens.entry)) }
+    ensures gives { Gives (λ e. e.value) result (reading.read_try levels (part levels brackets) (at_place place) (toks tokens.entry)) }
     ensures moves { IfOk result (λ x. Moves tokens.entry x.1) }
 {
     let (body, behind) = body(alloc, levels, brackets, tokens)?;
@@ -201,5 +201,5 @@ pub fn attempt<'a>(
         return Err(Unread::Refused);
     }
     let node = ExprNode::Try(body, clauses, handlers, after);
-    Ok((Expr::new(place.line, node), rest))
+    built(alloc, place.line, node, rest)
 }

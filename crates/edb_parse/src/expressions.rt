@@ -2,15 +2,16 @@
 
 ghost use Rattle.std.specs.Prelude.{◌≡◌, IfOk, IfSome, length, suc};
 ghost use Rattle.edb_scan.specs.declared.lexeme.Mark.TheVariants as mark;
-ghost use Rattle.edb_syntax.specs.Syntax.{match as match_tree};
-ghost use Rattle.edb_grammar.specs.Reading.{closed};
+ghost use Rattle.edb_syntax.specs.Syntax.{catch, match as match_tree};
+ghost use Rattle.edb_grammar.specs.Reading.{closed, made};
 ghost use Rattle.edb_grammar.specs.PatternReading.{read_single};
 ghost use Rattle.edb_grammar.specs.ExpressionReading as reading;
 ghost use Rattle.edb_parse.specs.Cursors.{toks, Fits, Moves, Stays};
-ghost use Rattle.edb_parse.specs.Descent.{inside, node as node_at};
-ghost use Rattle.edb_parse.specs.Gives.{GivesTree};
+ghost use Rattle.edb_parse.specs.Descent.{inside, node as node_at, part};
+ghost use Rattle.edb_parse.specs.Gives.{Gives};
 ghost use Rattle.edb_parse.specs.Handling.{Tries};
 
+use crate::boxes::built;
 use crate::calls::operand;
 use crate::cursor::Cursor;
 use crate::keeping::{beside, fitting};
@@ -31,9 +32,9 @@ pub fn expression<'a>(
     brackets: u32,
     loosest: u32,
     tokens: Cursor<'a>,
-) -> Result<(Expr, Cursor<'a>), Unread>
+) -> Result<(Box<Expr>, Cursor<'a>), Unread>
     requires fits { Fits tokens }
-    ensures gives { GivesTree result (reading.read_expression levels brackets loosest (toks tokens.entry)) }
+    ensures gives { Gives (λ e. e.value) result (reading.read_expression levels brackets loosest (toks tokens.entry)) }
     ensures moves { IfOk result (λ x. Moves tokens.entry x.1) }
 {
     if levels == 0 {
@@ -50,22 +51,35 @@ pub fn node<'a>(
     brackets: u32,
     loosest: u32,
     tokens: Cursor<'a>,
-) -> Result<(Expr, Cursor<'a>), Unread>
+) -> Result<(Box<Expr>, Cursor<'a>), Unread>
     requires fits { Fits tokens }
-    ensures gives { GivesTree result (node_at levels brackets loosest (toks tokens.entry)) }
+    ensures gives { Gives (λ e. e.value) result (node_at levels brackets loosest (toks tokens.entry)) }
     ensures moves { IfOk result (λ x. Moves tokens.entry x.1) }
 {
     if loosest < 10 {
         return matched(alloc, levels, brackets, loosest, tokens);
     }
     match tokens.behind(Mark::Catch) {
-        Some(after) => {
-            let (operand, rest) = expression(alloc, levels, brackets, 10, after)?;
-            let operand = Box::new(alloc, operand)?;
-            Ok((Expr::new(tokens.line(), ExprNode::Catch(operand)), rest))
-        }
+        Some(after) => caught(alloc, levels, brackets, tokens.line(), after),
         None => matched(alloc, levels, brackets, loosest, tokens),
     }
+}
+
+/// `catch E` on this line, of which `catch` was read.
+#[cycle(expression)]
+fn caught<'a>(
+    alloc: Global,
+    levels: u32,
+    brackets: u32,
+    line: u32,
+    tokens: Cursor<'a>,
+) -> Result<(Box<Expr>, Cursor<'a>), Unread>
+    requires fits { Fits tokens }
+    ensures gives { Gives (λ e. e.value) result (made (catch line) (part levels brackets (toks tokens.entry))) }
+    ensures moves { IfOk result (λ x. Moves tokens.entry x.1) }
+{
+    let (operand, rest) = expression(alloc, levels, brackets, 10, tokens)?;
+    built(alloc, line, ExprNode::Catch(operand), rest)
 }
 
 /// The pattern without `=` at its top at the front, and what stands behind the `=` behind it, where both stand
@@ -92,12 +106,23 @@ fn left_side<'a>(
     }
 }
 
-/// `P = E`, on this line.
-fn match_of(alloc: Global, line: u32, pattern: Pattern, value: Expr) -> Result<Expr, AllocError>
-    ensures { IfOk result (λ e. e ≡ match_tree line pattern value) }
+/// `P = E` on this line, of which `P =` was read.
+#[cycle(expression)]
+fn bound<'a>(
+    alloc: Global,
+    levels: u32,
+    brackets: u32,
+    line: u32,
+    pattern: Pattern,
+    tokens: Cursor<'a>,
+) -> Result<(Box<Expr>, Cursor<'a>), Unread>
+    requires fits { Fits tokens }
+    ensures gives { Gives (λ e. e.value) result (made (match_tree line pattern) (part levels brackets (toks tokens.entry))) }
+    ensures moves { IfOk result (λ x. Moves tokens.entry x.1) }
 {
-    let value = Box::new(alloc, value)?;
-    Ok(Expr::new(line, ExprNode::Match(pattern, value)))
+    let value = expression(alloc, levels, brackets, 10, tokens);
+    let (pattern, value, rest) = beside(pattern, value)?;
+    built(alloc, line, ExprNode::Match(pattern, value), rest)
 }
 
 /// The match at the front, or the operands and the operators.
@@ -108,20 +133,16 @@ fn matched<'a>(
     brackets: u32,
     loosest: u32,
     tokens: Cursor<'a>,
-) -> Result<(Expr, Cursor<'a>), Unread>
+) -> Result<(Box<Expr>, Cursor<'a>), Unread>
     requires fits { Fits tokens }
-    ensures gives { GivesTree result (reading.read_match brackets levels (reading.read_expression levels) (inside levels brackets) loosest (toks tokens.entry)) }
+    ensures gives { Gives (λ e. e.value) result (reading.read_match brackets levels (reading.read_expression levels) (inside levels brackets) loosest (toks tokens.entry)) }
     ensures moves { IfOk result (λ x. Moves tokens.entry x.1) }
 {
     if loosest < 9 {
         return operated(alloc, levels, brackets, loosest, tokens);
     }
     match left_side(alloc, levels, tokens)? {
-        Some((pattern, after)) => {
-            let value = expression(alloc, levels, brackets, 10, after);
-            let (pattern, value, rest) = beside(pattern, value)?;
-            Ok((match_of(alloc, tokens.line(), pattern, value)?, rest))
-        }
+        Some((pattern, after)) => bound(alloc, levels, brackets, tokens.line(), pattern, after),
         None => operated(alloc, levels, brackets, loosest, tokens),
     }
 }
@@ -134,9 +155,9 @@ fn operated<'a>(
     brackets: u32,
     loosest: u32,
     tokens: Cursor<'a>,
-) -> Result<(Expr, Cursor<'a>), Unread>
+) -> Result<(Box<Expr>, Cursor<'a>), Unread>
     requires fits { Fits tokens }
-    ensures gives { GivesTree result (reading.read_operators brackets levels (reading.read_expression levels) (inside levels brackets) loosest (toks tokens.entry)) }
+    ensures gives { Gives (λ e. e.value) result (reading.read_operators brackets levels (reading.read_expression levels) (inside levels brackets) loosest (toks tokens.entry)) }
     ensures moves { IfOk result (λ x. Moves tokens.entry x.1) }
 {
     let (first, rest) = operand(alloc, levels, brackets, tokens)?;
@@ -151,11 +172,11 @@ fn climb<'a>(
     brackets: u32,
     loosest: u32,
     line: u32,
-    first: Expr,
+    first: Box<Expr>,
     tokens: Cursor<'a>,
-) -> Result<(Expr, Cursor<'a>), Unread>
+) -> Result<(Box<Expr>, Cursor<'a>), Unread>
     requires fits { Fits tokens }
-    ensures gives { GivesTree result (reading.climb brackets levels (reading.read_expression levels) loosest line (suc (length (toks tokens.entry))) 2 first (toks tokens.entry)) }
+    ensures gives { Gives (λ e. e.value) result (reading.climb brackets levels (reading.read_expression levels) loosest line (suc (length (toks tokens.entry))) 2 first.value (toks tokens.entry)) }
     ensures stays { IfOk result (λ x. Stays tokens.entry x.1) }
 {
     let mut left = first;

@@ -6,8 +6,9 @@ ghost use Rattle.edb_syntax.specs.Syntax.{clauses_of};
 ghost use Rattle.edb_grammar.specs.ExpressionReading as reading;
 ghost use Rattle.edb_parse.specs.Cursors.{toks, at_place, Fits, Moves};
 ghost use Rattle.edb_parse.specs.Descent.{part};
-ghost use Rattle.edb_parse.specs.Gives.{GivesTree};
+ghost use Rattle.edb_parse.specs.Gives.{Gives};
 
+use crate::boxes::built;
 use crate::clauses::{Head, clauses};
 use crate::cursor::{Cursor, Place};
 use crate::unread::Unread;
@@ -26,9 +27,9 @@ pub fn fun<'a>(
     brackets: u32,
     place: Place,
     tokens: Cursor<'a>,
-) -> Result<(Expr, Cursor<'a>), Unread>
+) -> Result<(Box<Expr>, Cursor<'a>), Unread>
     requires fits { Fits tokens }
-    ensures gives { GivesTree result (reading.read_fun brackets levels (part levels brackets) (at_place place) (toks tokens.entry)) }
+    ensures gives { Gives (λ e. e.value) result (reading.read_fun brackets levels (part levels brackets) (at_place place) (toks tokens.entry)) }
     ensures moves { IfOk result (λ x. Moves tokens.entry x.1) }
 {
     match tokens.behind(Mark::ParenOpen) {
@@ -45,9 +46,9 @@ fn fun_clauses<'a>(
     brackets: u32,
     place: Place,
     tokens: Cursor<'a>,
-) -> Result<(Expr, Cursor<'a>), Unread>
+) -> Result<(Box<Expr>, Cursor<'a>), Unread>
     requires fits { Fits tokens }
-    ensures gives { GivesTree result (reading.read_fun_clauses brackets levels (part levels brackets) (at_place place) (toks tokens.entry)) }
+    ensures gives { Gives (λ e. e.value) result (reading.read_fun_clauses brackets levels (part levels brackets) (at_place place) (toks tokens.entry)) }
     ensures moves { IfOk result (λ x. Moves tokens.entry x.1) }
 {
     if brackets == 0 {
@@ -59,10 +60,8 @@ fn fun_clauses<'a>(
         return Err(Unread::Refused);
     }
     let index = place.funs;
-    Ok((
-        Expr::new(place.line, ExprNode::Fun { index, clauses }),
-        rest,
-    ))
+    let node = ExprNode::Fun { index, clauses };
+    built(alloc, place.line, node, rest)
 }
 
 /// How many parameters a clause has.
@@ -109,9 +108,9 @@ fn fun_name<'a>(
     alloc: Global,
     place: Place,
     tokens: Cursor<'a>,
-) -> Result<(Expr, Cursor<'a>), Unread>
+) -> Result<(Box<Expr>, Cursor<'a>), Unread>
     requires fits { Fits tokens }
-    ensures gives { GivesTree result (reading.read_fun_name (at_place place) (toks tokens.entry)) }
+    ensures gives { Gives (λ e. e.value) result (reading.read_fun_name (at_place place) (toks tokens.entry)) }
     ensures moves { IfOk result (λ x. Moves tokens.entry x.1) }
 {
     let (first, behind) = tokens.name()?;
@@ -120,7 +119,7 @@ fn fun_name<'a>(
         let name = first.copy(alloc)?;
         let index = place.funs;
         let node = ExprNode::FunLocal { index, name, arity };
-        return Ok((Expr::new(place.line, node), rest));
+        return built(alloc, place.line, node, rest);
     }
     let after = behind.expect(Mark::Colon)?;
     let (second, behind) = after.name()?;
@@ -129,5 +128,5 @@ fn fun_name<'a>(
     let home = first.copy(alloc)?;
     let name = second.copy(alloc)?;
     let node = ExprNode::FunRemote { home, name, arity };
-    Ok((Expr::new(place.line, node), rest))
+    built(alloc, place.line, node, rest)
 }

@@ -109,15 +109,15 @@ fn classed<'a>(
     ensures moves { IfOk result (λ x. Moves tokens.entry x.1) }
 {
     let (class, pattern, behind) = beside(class, pattern(alloc, levels, tokens))?;
-    match behind.behind(Mark::Colon) {
+    let (head, behind) = match behind.behind(Mark::Colon) {
         Some(after) => {
             let (kept, variable, behind) = beside((class, pattern), stack(alloc, after))?;
             let (class, pattern) = kept;
-            let stack = Some(variable);
-            headed(alloc, levels, brackets, (class, pattern, stack), behind)
+            ((class, pattern, Some(variable)), behind)
         }
-        None => headed(alloc, levels, brackets, (class, pattern, None), behind),
-    }
+        None => ((class, pattern, None), behind),
+    };
+    headed(alloc, levels, brackets, head, behind)
 }
 
 /// What stands behind the class, the pattern and the variable for the stack.

@@ -41,8 +41,8 @@ pub fn close<'a, T: Drop>(
 }
 
 /// This expression, where it is at most so deep.
-pub fn fitting(expr: Expr, levels: u32) -> Result<Expr, Unread>
-    ensures { MatchResult result (λ e. (e ≡ expr) × (nat_le (depth expr) levels ≡ true)) (λ e. (nat_le (depth expr) levels ≡ false) × (e ≡ Refused)) }
+pub fn fitting(expr: Box<Expr>, levels: u32) -> Result<Box<Expr>, Unread>
+    ensures { MatchResult result (λ e. (e ≡ expr) × (nat_le (depth expr.value) levels ≡ true)) (λ e. (nat_le (depth expr.value) levels ≡ false) × (e ≡ Refused)) }
 {
     if expr.is_within(levels) {
         return Ok(expr);
@@ -52,8 +52,11 @@ pub fn fitting(expr: Expr, levels: u32) -> Result<Expr, Unread>
 }
 
 /// These expressions, where both are at most so deep.
-pub fn both_fitting(exprs: (Expr, Expr), levels: u32) -> Result<(Expr, Expr), Unread>
-    ensures { MatchResult result (λ x. (x ≡ exprs) × (nat_le (depth exprs.0) levels && nat_le (depth exprs.1) levels ≡ true)) (λ e. (nat_le (depth exprs.0) levels && nat_le (depth exprs.1) levels ≡ false) × (e ≡ Refused)) }
+pub fn both_fitting(
+    exprs: (Box<Expr>, Box<Expr>),
+    levels: u32,
+) -> Result<(Box<Expr>, Box<Expr>), Unread>
+    ensures { MatchResult result (λ x. (x ≡ exprs) × (nat_le (depth exprs.0.value) levels && nat_le (depth exprs.1.value) levels ≡ true)) (λ e. (nat_le (depth exprs.0.value) levels && nat_le (depth exprs.1.value) levels ≡ false) × (e ≡ Refused)) }
 {
     if exprs.0.is_within(levels) && exprs.1.is_within(levels) {
         return Ok(exprs);

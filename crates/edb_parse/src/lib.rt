@@ -4,6 +4,7 @@
 
 mod attributes;
 mod bodies;
+mod boxes;
 mod calls;
 #[cfg(test)]
 mod checks;

@@ -5,8 +5,9 @@ ghost use Rattle.edb_syntax.specs.Syntax.{exps_of};
 ghost use Rattle.edb_grammar.specs.ExpressionReading as reading;
 ghost use Rattle.edb_parse.specs.Cursors.{toks, at_place, Fits, Moves, Stays};
 ghost use Rattle.edb_parse.specs.Descent.{part, comprehension_of};
-ghost use Rattle.edb_parse.specs.Gives.{Gives, GivesTree};
+ghost use Rattle.edb_parse.specs.Gives.{Gives};
 
+use crate::boxes::{add, before, built, list_before, one};
 use crate::cursor::{Cursor, Place};
 use crate::expressions::expression;
 use crate::keeping::{beside, close};
@@ -29,11 +30,11 @@ pub fn all<'a>(
     ensures moves { IfOk result (λ x. Moves tokens.entry x.1) }
 {
     let (first, behind) = expression(alloc, levels, brackets, 10, tokens)?;
-    let mut exprs = Vec::from_array(alloc, [first])?;
+    let mut exprs = one(alloc, first)?;
     let mut rest = behind;
     while let Some(after) = rest.behind(Mark::Comma) {
         let (next, behind) = expression(alloc, levels, brackets, 10, after)?;
-        exprs.push(next)?;
+        add(&mut exprs, next)?;
         rest = behind;
     }
     Ok((exprs, rest))
@@ -67,21 +68,19 @@ fn elements<'a>(
     alloc: Global,
     levels: u32,
     brackets: u32,
-    first: Expr,
+    first: Box<Expr>,
     tokens: Cursor<'a>,
 ) -> Result<(Vec<Expr>, Cursor<'a>), Unread>
     requires fits { Fits tokens }
-    ensures gives { Gives (λ v. exps_of v.items) result (reading.read_elements (part levels brackets) first (toks tokens.entry)) }
+    ensures gives { Gives (λ v. exps_of v.items) result (reading.read_elements (part levels brackets) first.value (toks tokens.entry)) }
     ensures stays { IfOk result (λ x. Stays tokens.entry x.1) }
 {
     match tokens.behind(Mark::Comma) {
         Some(after) => {
             let (first, others, rest) = beside(first, all(alloc, levels, brackets, after))?;
-            let mut exprs = others;
-            exprs.insert(0, first)?;
-            Ok((exprs, rest))
+            Ok((before(first, others)?, rest))
         }
-        None => Ok((Vec::from_array(alloc, [first])?, tokens)),
+        None => Ok((one(alloc, first)?, tokens)),
     }
 }
 
@@ -94,20 +93,20 @@ fn list_end<'a>(
     place: Place,
     elements: Vec<Expr>,
     tokens: Cursor<'a>,
-) -> Result<(Expr, Cursor<'a>), Unread>
+) -> Result<(Box<Expr>, Cursor<'a>), Unread>
     requires fits { Fits tokens }
-    ensures gives { GivesTree result (reading.read_list (part levels brackets) (at_place place) (exps_of elements.items) (toks tokens.entry)) }
+    ensures gives { Gives (λ e. e.value) result (reading.read_list (part levels brackets) (at_place place) (exps_of elements.items) (toks tokens.entry)) }
     ensures moves { IfOk result (λ x. Moves tokens.entry x.1) }
 {
     if let Some(rest) = tokens.behind(Mark::BracketClose) {
         let node = ExprNode::Apply(Operation::List, elements);
-        return Ok((Expr::new(place.line, node), rest));
+        return built(alloc, place.line, node, rest);
     }
     let after = tokens.expect(Mark::Bar)?;
     let tail = expression(alloc, levels, brackets, 10, after);
     let (elements, tail, behind) = beside(elements, tail)?;
     let ((elements, tail), rest) = close((elements, tail), behind, Mark::BracketClose)?;
-    Ok((Expr::list_with_tail(place.line, elements, tail)?, rest))
+    Ok((list_before(alloc, place.line, elements, tail)?, rest))
 }
 
 /// The end of a comprehension of this expression, behind `||`.
@@ -117,18 +116,17 @@ fn comprehension<'a>(
     levels: u32,
     brackets: u32,
     place: Place,
-    value: Expr,
+    value: Box<Expr>,
     tokens: Cursor<'a>,
-) -> Result<(Expr, Cursor<'a>), Unread>
+) -> Result<(Box<Expr>, Cursor<'a>), Unread>
     requires fits { Fits tokens }
-    ensures gives { GivesTree result (comprehension_of levels brackets (at_place place) value (toks tokens.entry)) }
+    ensures gives { Gives (λ e. e.value) result (comprehension_of levels brackets (at_place place) value.value (toks tokens.entry)) }
     ensures moves { IfOk result (λ x. Moves tokens.entry x.1) }
 {
-    let value = Box::new(alloc, value)?;
     let (qualifiers, behind) = qualifiers(alloc, levels, brackets, tokens)?;
     let rest = behind.expect(Mark::BracketClose)?;
     let node = ExprNode::Comprehension(value, qualifiers);
-    Ok((Expr::new(place.line, node), rest))
+    built(alloc, place.line, node, rest)
 }
 
 /// A list or a comprehension, of which `[` was read.
@@ -139,14 +137,14 @@ pub fn bracketed<'a>(
     brackets: u32,
     place: Place,
     tokens: Cursor<'a>,
-) -> Result<(Expr, Cursor<'a>), Unread>
+) -> Result<(Box<Expr>, Cursor<'a>), Unread>
     requires fits { Fits tokens }
-    ensures gives { GivesTree result (reading.read_bracketed levels (part levels brackets) (at_place place) (toks tokens.entry)) }
+    ensures gives { Gives (λ e. e.value) result (reading.read_bracketed levels (part levels brackets) (at_place place) (toks tokens.entry)) }
     ensures moves { IfOk result (λ x. Moves tokens.entry x.1) }
 {
     if let Some(rest) = tokens.behind(Mark::BracketClose) {
         let node = ExprNode::Apply(Operation::List, Vec::new(alloc));
-        return Ok((Expr::new(place.line, node), rest));
+        return built(alloc, place.line, node, rest);
     }
     let (first, behind) = expression(alloc, levels, brackets, 10, tokens)?;
     match behind.behind(Mark::BarBar) {

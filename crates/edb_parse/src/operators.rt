@@ -7,9 +7,10 @@ ghost use Rattle.edb_grammar.specs.ExpressionReading.{infix_at, takes, tail};
 ghost use Rattle.edb_parse.specs.Cursors.{toks, Fits, Moves};
 ghost use Rattle.edb_parse.specs.Operating.{infix_from, left_at, right_at, Stops};
 
+use crate::boxes::{boxed, two};
 use crate::cursor::Cursor;
 use edb_scan::{Mark, Token};
-use edb_syntax::{BinaryOp, Expr, ExprNode};
+use edb_syntax::{BinaryOp, Expr, ExprNode, Operation};
 use std::alloc::{AllocError, Global};
 
 /// An operator between two operands, `=` apart.
@@ -157,25 +158,20 @@ impl Operator {
         self,
         alloc: Global,
         line: u32,
-        left: Expr,
-        right: Expr,
-    ) -> Result<Expr, AllocError>
-        ensures { IfOk result (λ e. e ≡ operators.between line (infix_from self) left right) }
+        left: Box<Expr>,
+        right: Box<Expr>,
+    ) -> Result<Box<Expr>, AllocError>
+        ensures { IfOk result (λ e. e.value ≡ operators.between line (infix_from self) left.value right.value) }
     {
-        match self {
-            Operator::Strict(op) => Expr::binary(alloc, line, op, left, right),
-            Operator::AndAlso => {
-                let left = Box::new(alloc, left)?;
-                let right = Box::new(alloc, right)?;
-                Ok(Expr::new(line, ExprNode::AndAlso(left, right)))
+        let node = match self {
+            Operator::Strict(op) => {
+                ExprNode::Apply(Operation::Binary(op), two(alloc, left, right)?)
             }
-            Operator::OrElse => {
-                let left = Box::new(alloc, left)?;
-                let right = Box::new(alloc, right)?;
-                Ok(Expr::new(line, ExprNode::OrElse(left, right)))
-            }
-            Operator::Send => Expr::send(alloc, line, left, right),
-        }
+            Operator::AndAlso => ExprNode::AndAlso(left, right),
+            Operator::OrElse => ExprNode::OrElse(left, right),
+            Operator::Send => ExprNode::Apply(Operation::Send, two(alloc, left, right)?),
+        };
+        Ok(boxed(alloc, line, node)?)
     }
 }
 

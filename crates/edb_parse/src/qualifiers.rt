@@ -8,9 +8,10 @@ ghost use Rattle.edb_grammar.specs.PatternReading.{read_pat};
 ghost use Rattle.edb_grammar.specs.ExpressionReading as reading;
 ghost use Rattle.edb_parse.specs.Cursors.{toks, Fits, Moves};
 ghost use Rattle.edb_parse.specs.Descent.{part};
-ghost use Rattle.edb_parse.specs.Gives.{Gives, GivesTree};
+ghost use Rattle.edb_parse.specs.Gives.{Gives};
 ghost use Rattle.edb_parse.specs.Handling.{Tries};
 
+use crate::boxes::{add, one};
 use crate::cursor::Cursor;
 use crate::expressions::expression;
 use crate::keeping::beside;
@@ -33,11 +34,11 @@ pub fn qualifiers<'a>(
     ensures moves { IfOk result (λ x. Moves tokens.entry x.1) }
 {
     let (first, behind) = qualifier(alloc, levels, brackets, tokens)?;
-    let mut qualifiers = Vec::from_array(alloc, [first])?;
+    let mut qualifiers = one(alloc, first)?;
     let mut rest = behind;
     while let Some(after) = rest.behind(Mark::Comma) {
         let (next, behind) = qualifier(alloc, levels, brackets, after)?;
-        qualifiers.push(next)?;
+        add(&mut qualifiers, next)?;
         rest = behind;
     }
     Ok((qualifiers, rest))
@@ -50,22 +51,22 @@ fn qualifier<'a>(
     levels: u32,
     brackets: u32,
     tokens: Cursor<'a>,
-) -> Result<(Qualifier, Cursor<'a>), Unread>
+) -> Result<(Box<Qualifier>, Cursor<'a>), Unread>
     requires fits { Fits tokens }
-    ensures gives { GivesTree result (reading.read_qualifier levels (part levels brackets) (toks tokens.entry)) }
+    ensures gives { Gives (λ q. q.value) result (reading.read_qualifier levels (part levels brackets) (toks tokens.entry)) }
     ensures moves { IfOk result (λ x. Moves tokens.entry x.1) }
 {
     match drawn(alloc, levels, tokens)? {
         Some((pattern, after)) => {
             let source = expression(alloc, levels, brackets, 10, after);
             let (pattern, source, rest) = beside(pattern, source)?;
-            let node = QualifierNode::Generator(pattern, source);
-            Ok((Qualifier { node }, rest))
+            let node = QualifierNode::Generator(pattern, Box::into_inner(source));
+            Ok((Box::new(alloc, Qualifier { node })?, rest))
         }
         None => {
             let (test, rest) = expression(alloc, levels, brackets, 10, tokens)?;
-            let node = QualifierNode::Filter(test);
-            Ok((Qualifier { node }, rest))
+            let node = QualifierNode::Filter(Box::into_inner(test));
+            Ok((Box::new(alloc, Qualifier { node })?, rest))
         }
     }
 }

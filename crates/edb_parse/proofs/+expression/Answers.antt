@@ -1,8 +1,8 @@
-use Rattle.std.proofs.Common.{List, Option, sym, subst, suc, length, Err, Some, ◌∙◌, ap, arith}
-use Rattle.edb_syntax.specs.Syntax.{Exp, exps_of, none, more, catches_of, no_catches, more_catches, clauses_of, no_clauses, more_clauses, qualifiers_of, no_qualifiers, more_qualifiers, no_guard, alternative}
+use Rattle.std.proofs.Common.{Box, Global, List, Option, sym, subst, suc, length, Err, Some, ◌∙◌, ap, arith}
+use Rattle.edb_syntax.specs.Syntax.{Exp, QualifierTree, exps_of, none, more, catches_of, no_catches, more_catches, clauses_of, no_clauses, more_clauses, qualifiers_of, no_qualifiers, more_qualifiers, no_guard, alternative}
 use Rattle.edb_grammar.specs.Toks.{Tok}
 use Rattle.edb_parse.specs.Cursors.{toks, Moves}
-use Rattle.edb_parse.specs.Gives.{GivesTree}
+use Rattle.edb_parse.specs.Gives.{Gives}
 use Rattle.edb_parse.proofs.Climbing.{operators_behind, climb_ends, climb_too_deep, climb_fails, climb_next}
 use Rattle.std.proofs.lemmas.Result.{err_from_is_err_and}
 use Rattle.edb_grammar.specs.Operators.{between}
@@ -19,9 +19,9 @@ use Rattle.edb_parse.proofs.+expression.Goals as goal
 
 pub expressions::operated-returns-clause-gives : goal.expressions::operated-returns-clause-gives
 expressions::operated-returns-clause-gives t c =
-    let P : Option (Exp × List Tok) → Type 0 = λ o. GivesTree c.climb.result o in
+    let P : Option (Exp × List Tok) → Type 0 = λ o. Gives (λ e. e.value) c.climb.result o in
     subst P (sym (operators_behind c.args.levels c.args.brackets c.args.loosest c.line.result (toks c.args.tokens) (toks c.in_ok-first.rest)
-    c.in_ok-first.first c.line.ensures c.in_ok-first.ensures.gives))
+    c.in_ok-first.first.value c.line.ensures c.in_ok-first.ensures.gives))
     c.climb.ensures.gives
 
 pub expressions::climb-returns-in_err-shallow-clause-gives : goal.expressions::climb-returns-in_err-shallow-clause-gives
@@ -30,10 +30,10 @@ expressions::climb-returns-in_err-shallow-clause-gives t c =
     let n = c.args.levels in
     let m = c.args.brackets in
     let l = c.args.loosest in
-    refused (λ e. e) c.from_residual.result c.in_err-shallow.field-0.0 (reading.climb m n (reading.read_expression n) l c.args.line (suc (length
-    (toks c.args.tokens))) 2 c.args.first (toks c.args.tokens))
+    refused (λ e. e.value) c.from_residual.result c.in_err-shallow.field-0.0 (reading.climb m n (reading.read_expression n) l c.args.line (suc (length
+    (toks c.args.tokens))) 2 c.args.first.value (toks c.args.tokens))
     c.in_err-shallow.ensures.1 (err.1 ∙ ap Err err.2)
-    (climb_too_deep n m l c.args.line c.args.first (toks c.args.tokens) c.loop-operator.level c.loop-operator.left (toks c.loop-operator.rest)
+    (climb_too_deep n m l c.args.line c.args.first.value (toks c.args.tokens) c.loop-operator.level c.loop-operator.left.value (toks c.loop-operator.rest)
     c.loop-operator.invariant.0
     (infix_from c.in-Some.operator) c.in-Some.ensures.takes.0 c.in-Some.ensures.takes.1 c.in_err-shallow.ensures.0)
 
@@ -43,11 +43,11 @@ expressions::climb-returns-in_err-operand-clause-gives t c =
     let n = c.args.levels in
     let m = c.args.brackets in
     let l = c.args.loosest in
-    failed_on (λ e. e) (λ e. e) c.expression-right.result c.from_residual-in_err-operand.result c.in_err-operand.field-0.0 (reading.read_expression n
+    failed_on (λ e. e.value) (λ e. e.value) c.expression-right.result c.from_residual-in_err-operand.result c.in_err-operand.field-0.0 (reading.read_expression n
     m c.right.result (toks c.in-Some.after))
-    (reading.climb m n (reading.read_expression n) l c.args.line (suc (length (toks c.args.tokens))) 2 c.args.first (toks c.args.tokens))
+    (reading.climb m n (reading.read_expression n) l c.args.line (suc (length (toks c.args.tokens))) 2 c.args.first.value (toks c.args.tokens))
     c.expression-right.ensures.gives c.in_err-operand.ensures (err.1 ∙ ap Err err.2)
-    (λ none_there. climb_fails n m l c.args.line c.args.first (toks c.args.tokens) c.loop-operator.level c.loop-operator.left (toks
+    (λ none_there. climb_fails n m l c.args.line c.args.first.value (toks c.args.tokens) c.loop-operator.level c.loop-operator.left.value (toks
     c.loop-operator.rest) c.loop-operator.invariant.0
     (infix_from c.in-Some.operator) c.in-Some.ensures.takes.0 c.in-Some.ensures.takes.1 c.in_ok-shallow.ensures.1
     (ap (λ r. reading.read_expression n m r (reading.tail (toks c.loop-operator.rest))) (sym c.right.ensures)
@@ -59,32 +59,32 @@ expressions::climb-loop-operator-preserved t c =
     let m = c.args.brackets in
     let l = c.args.loosest in
     let o = infix_from c.in-Some.operator in
-    let there = read_so (λ e. e) c.expression-right.result c.in_ok-operand.right c.in_ok-operand.behind (reading.read_expression n m c.right.result
+    let there = read_so (λ e. e.value) c.expression-right.result c.in_ok-operand.right c.in_ok-operand.behind (reading.read_expression n m c.right.result
     (toks c.in-Some.after))
     c.expression-right.ensures.gives c.in_ok-operand.ensures.1 in
     let moves : Moves c.in-Some.after c.in_ok-operand.behind = moved_so c.in-Some.after c.expression-right.result c.in_ok-operand.right
     c.in_ok-operand.behind c.expression-right.ensures.moves c.in_ok-operand.ensures.1 in
     let far : Moves c.loop-operator.rest c.in_ok-operand.behind = moves_on c.in-Some.ensures.moves moves in (
-      climb_next n m l c.args.line c.args.first (toks c.args.tokens) c.loop-operator.level c.loop-operator.left (toks c.loop-operator.rest)
+      climb_next n m l c.args.line c.args.first.value (toks c.args.tokens) c.loop-operator.level c.loop-operator.left.value (toks c.loop-operator.rest)
           c.loop-operator.invariant.0
-          o c.in-Some.ensures.takes.0 c.in-Some.ensures.takes.1 c.in_ok-shallow.ensures.1 c.in_ok-operand.right (toks c.in_ok-operand.behind)
+          o c.in-Some.ensures.takes.0 c.in-Some.ensures.takes.1 c.in_ok-shallow.ensures.1 c.in_ok-operand.right.value (toks c.in_ok-operand.behind)
           (ap (λ r. reading.read_expression n m r (reading.tail (toks c.loop-operator.rest))) (sym c.right.ensures)
           ∙ (ap (reading.read_expression n m c.right.result) c.in-Some.ensures.takes.2 ∙ there))
-          (fewer c.loop-operator.rest c.in_ok-operand.behind far) c.level-level.result c.in_ok-left.left c.level-level.ensures
-          (c.in_ok-left.ensures ∙ ap (λ d. between c.args.line o d c.in_ok-operand.right) (c.in_ok-operand.ensures.0 ∙ c.in_ok-shallow.ensures.0)),
+          (fewer c.loop-operator.rest c.in_ok-operand.behind far) c.level-level.result c.in_ok-left.left.value c.level-level.ensures
+          (c.in_ok-left.ensures ∙ ap (λ d. between c.args.line o d c.in_ok-operand.right.value) (ap (λ x. x.value) c.in_ok-operand.ensures.0 ∙ ap (λ x. x.value) c.in_ok-shallow.ensures.0)),
       record { fewer = omega (arith, c.loop-operator.invariant.1.fewer, far.fewer); funs = omega (arith, c.loop-operator.invariant.1.funs, far.funs) },
     )
 
 pub expressions::climb-returns-clause-gives : goal.expressions::climb-returns-clause-gives
 expressions::climb-returns-clause-gives t c =
-    climb_ends c.args.levels c.args.brackets c.args.loosest c.args.line c.args.first (toks c.args.tokens) c.loop-operator.level c.loop-operator.left
+    climb_ends c.args.levels c.args.brackets c.args.loosest c.args.line c.args.first.value (toks c.args.tokens) c.loop-operator.level c.loop-operator.left.value
     (toks c.loop-operator.rest)
     c.loop-operator.invariant.0 c.in_default.ensures.takes
 
 pub lists::all-loop-after-init : goal.lists::all-loop-after-init
 lists::all-loop-after-init t c =
     let read = part c.args.levels c.args.brackets in (
-      rw c.in_ok-exprs.ensures.items (going_start more none mark.Comma read (toks c.args.tokens) (toks c.in_ok-first.behind) c.in_ok-first.first
+      rw c.in_ok-exprs.ensures.items (going_start more none mark.Comma read (toks c.args.tokens) (toks c.in_ok-first.behind) c.in_ok-first.first.value
           c.in_ok-first.ensures.gives
           (fewer c.args.tokens c.in_ok-first.behind c.in_ok-first.ensures.moves)),
       c.in_ok-first.ensures.moves,
@@ -94,7 +94,7 @@ pub lists::all-returns-in_err-next-clause-gives : goal.lists::all-returns-in_err
 lists::all-returns-in_err-next-clause-gives t c =
     let err = err_from_is_err_and c.from_residual-in_err-next.result c.from_residual-in_err-next.ensures.1 in
     let read = part c.args.levels c.args.brackets in
-    passed_on (λ e. e) (λ v. exps_of v.items) c.from_residual-in_err-next.result c.in_err-next.field-0.0 (read (toks c.in-Some.after))
+    passed_on (λ (e : Box Exp Global). e.value) (λ v. exps_of v.items) c.from_residual-in_err-next.result c.in_err-next.field-0.0 (read (toks c.in-Some.after))
     (reading.read_all read (toks c.args.tokens))
     c.in_err-next.ensures.gives (err.1 ∙ ap Err err.2)
     (λ e. going_fails more none mark.Comma read (reading.read_all read (toks c.args.tokens)) c.loop-after.exprs.items (toks c.loop-after.rest) (toks
@@ -104,9 +104,9 @@ lists::all-returns-in_err-next-clause-gives t c =
 pub lists::all-loop-after-preserved : goal.lists::all-loop-after-preserved
 lists::all-loop-after-preserved t c =
     let read = part c.args.levels c.args.brackets in (
-      rw c.in_ok-push.ensures.items (going_next more none mark.Comma read (reading.read_all read (toks c.args.tokens)) c.loop-after.exprs.items (toks
+      rw c.in_ok-add.ensures.items (going_next more none mark.Comma read (reading.read_all read (toks c.args.tokens)) c.loop-after.exprs.items (toks
           c.loop-after.rest) (toks c.in-Some.after)
-          (toks c.in_ok-next.behind) c.in_ok-next.next c.loop-after.invariant.0 c.in-Some.ensures.finds c.in_ok-next.ensures.gives (fewer
+          (toks c.in_ok-next.behind) c.in_ok-next.next.value c.loop-after.invariant.0 c.in-Some.ensures.finds c.in_ok-next.ensures.gives (fewer
           c.loop-after.rest c.in-Some.after c.in-Some.ensures.moves)
           (fewer c.in-Some.after c.in_ok-next.behind c.in_ok-next.ensures.moves)),
       moves_on (moves_on c.loop-after.invariant.1 c.in-Some.ensures.moves) c.in_ok-next.ensures.moves,
@@ -213,7 +213,7 @@ clauses::clauses-returns-clause-gives t c =
 pub qualifiers::qualifiers-returns-in_err-first-clause-gives : goal.qualifiers::qualifiers-returns-in_err-first-clause-gives
 qualifiers::qualifiers-returns-in_err-first-clause-gives t c =
     let err = err_from_is_err_and c.from_residual.result c.from_residual.ensures.1 in
-    passed_on (λ x. x) (λ v. qualifiers_of v.items) c.from_residual.result c.in_err-first.field-0.0 ((reading.read_qualifier c.args.levels (part
+    passed_on (λ (x : Box QualifierTree Global). x.value) (λ v. qualifiers_of v.items) c.from_residual.result c.in_err-first.field-0.0 ((reading.read_qualifier c.args.levels (part
     c.args.levels c.args.brackets)) (toks c.args.tokens)) (reading.read_qualifiers c.args.levels (part c.args.levels c.args.brackets) (toks c.args.tokens))
     c.in_err-first.ensures.gives (err.1 ∙ ap Err err.2) (start_fails more_qualifiers no_qualifiers mark.Comma (reading.read_qualifier c.args.levels
     (part c.args.levels c.args.brackets)) (toks c.args.tokens))
@@ -221,7 +221,7 @@ qualifiers::qualifiers-returns-in_err-first-clause-gives t c =
 pub qualifiers::qualifiers-loop-after-init : goal.qualifiers::qualifiers-loop-after-init
 qualifiers::qualifiers-loop-after-init t c = (
   rw c.in_ok-qualifiers.ensures.items (going_start more_qualifiers no_qualifiers mark.Comma (reading.read_qualifier c.args.levels (part c.args.levels
-      c.args.brackets)) (toks c.args.tokens) (toks c.in_ok-first.behind) c.in_ok-first.first c.in_ok-first.ensures.gives
+      c.args.brackets)) (toks c.args.tokens) (toks c.in_ok-first.behind) c.in_ok-first.first.value c.in_ok-first.ensures.gives
       (fewer c.args.tokens c.in_ok-first.behind c.in_ok-first.ensures.moves)),
   c.in_ok-first.ensures.moves,
 )
@@ -229,7 +229,7 @@ qualifiers::qualifiers-loop-after-init t c = (
 pub qualifiers::qualifiers-returns-in_err-next-clause-gives : goal.qualifiers::qualifiers-returns-in_err-next-clause-gives
 qualifiers::qualifiers-returns-in_err-next-clause-gives t c =
     let err = err_from_is_err_and c.from_residual-in_err-next.result c.from_residual-in_err-next.ensures.1 in
-    passed_on (λ x. x) (λ v. qualifiers_of v.items) c.from_residual-in_err-next.result c.in_err-next.field-0.0 ((reading.read_qualifier c.args.levels
+    passed_on (λ (x : Box QualifierTree Global). x.value) (λ v. qualifiers_of v.items) c.from_residual-in_err-next.result c.in_err-next.field-0.0 ((reading.read_qualifier c.args.levels
     (part c.args.levels c.args.brackets)) (toks c.in-Some.after)) (reading.read_qualifiers c.args.levels (part c.args.levels c.args.brackets) (toks
     c.args.tokens))
     c.in_err-next.ensures.gives (err.1 ∙ ap Err err.2)
@@ -240,10 +240,10 @@ qualifiers::qualifiers-returns-in_err-next-clause-gives t c =
 
 pub qualifiers::qualifiers-loop-after-preserved : goal.qualifiers::qualifiers-loop-after-preserved
 qualifiers::qualifiers-loop-after-preserved t c = (
-  rw c.in_ok-push.ensures.items (going_next more_qualifiers no_qualifiers mark.Comma (reading.read_qualifier c.args.levels (part c.args.levels
+  rw c.in_ok-add.ensures.items (going_next more_qualifiers no_qualifiers mark.Comma (reading.read_qualifier c.args.levels (part c.args.levels
       c.args.brackets)) (reading.read_qualifiers c.args.levels (part c.args.levels c.args.brackets) (toks c.args.tokens)) c.loop-after.qualifiers.items
       (toks c.loop-after.rest) (toks c.in-Some.after)
-      (toks c.in_ok-next.behind) c.in_ok-next.next c.loop-after.invariant.0 c.in-Some.ensures.finds c.in_ok-next.ensures.gives (fewer
+      (toks c.in_ok-next.behind) c.in_ok-next.next.value c.loop-after.invariant.0 c.in-Some.ensures.finds c.in_ok-next.ensures.gives (fewer
       c.loop-after.rest c.in-Some.after c.in-Some.ensures.moves)
       (fewer c.in-Some.after c.in_ok-next.behind c.in_ok-next.ensures.moves)),
   moves_on (moves_on c.loop-after.invariant.1 c.in-Some.ensures.moves) c.in_ok-next.ensures.moves,
@@ -303,14 +303,14 @@ bodies::guard-returns-clause-gives t c =
 pub bodies::tests-returns-in_err-first-clause-gives : goal.bodies::tests-returns-in_err-first-clause-gives
 bodies::tests-returns-in_err-first-clause-gives t c =
     let err = err_from_is_err_and c.from_residual.result c.from_residual.ensures.1 in
-    passed_on (λ x. x) (λ x. x) c.from_residual.result c.in_err-first.field-0.0 ((part c.args.levels c.args.brackets) (toks c.args.tokens))
+    passed_on (λ (e : Box Exp Global). e.value) (λ x. x) c.from_residual.result c.in_err-first.field-0.0 ((part c.args.levels c.args.brackets) (toks c.args.tokens))
     (reading.read_all (part c.args.levels c.args.brackets) (toks c.args.tokens))
     c.in_err-first.ensures.gives (err.1 ∙ ap Err err.2) (start_fails more none mark.Comma (part c.args.levels c.args.brackets) (toks c.args.tokens))
 
 pub bodies::tests-loop-after-init : goal.bodies::tests-loop-after-init
 bodies::tests-loop-after-init t c = (
   rw c.in_ok-tests.ensures.items (going_start more none mark.Comma (part c.args.levels c.args.brackets) (toks c.args.tokens) (toks
-      c.in_ok-first.behind) c.in_ok-first.first c.in_ok-first.ensures.gives
+      c.in_ok-first.behind) c.in_ok-first.first.value c.in_ok-first.ensures.gives
       (fewer c.args.tokens c.in_ok-first.behind c.in_ok-first.ensures.moves)),
   c.in_ok-first.ensures.moves,
 )
@@ -318,7 +318,7 @@ bodies::tests-loop-after-init t c = (
 pub bodies::tests-returns-in_err-next-clause-gives : goal.bodies::tests-returns-in_err-next-clause-gives
 bodies::tests-returns-in_err-next-clause-gives t c =
     let err = err_from_is_err_and c.from_residual-in_err-next.result c.from_residual-in_err-next.ensures.1 in
-    passed_on (λ x. x) (λ x. x) c.from_residual-in_err-next.result c.in_err-next.field-0.0 ((part c.args.levels c.args.brackets) (toks
+    passed_on (λ (e : Box Exp Global). e.value) (λ x. x) c.from_residual-in_err-next.result c.in_err-next.field-0.0 ((part c.args.levels c.args.brackets) (toks
     c.in-Some.after)) (reading.read_all (part c.args.levels c.args.brackets) (toks c.args.tokens))
     c.in_err-next.ensures.gives (err.1 ∙ ap Err err.2)
     (λ e. going_fails more none mark.Comma (part c.args.levels c.args.brackets) (reading.read_all (part c.args.levels c.args.brackets) (toks
@@ -327,9 +327,9 @@ bodies::tests-returns-in_err-next-clause-gives t c =
 
 pub bodies::tests-loop-after-preserved : goal.bodies::tests-loop-after-preserved
 bodies::tests-loop-after-preserved t c = (
-  rw c.in_ok-push.ensures.items (going_next more none mark.Comma (part c.args.levels c.args.brackets) (reading.read_all (part c.args.levels
+  rw c.in_ok-add_test.ensures.items (going_next more none mark.Comma (part c.args.levels c.args.brackets) (reading.read_all (part c.args.levels
       c.args.brackets) (toks c.args.tokens)) c.loop-after.tests.items (toks c.loop-after.rest) (toks c.in-Some.after)
-      (toks c.in_ok-next.behind) c.in_ok-next.next c.loop-after.invariant.0 c.in-Some.ensures.finds c.in_ok-next.ensures.gives (fewer
+      (toks c.in_ok-next.behind) c.in_ok-next.next.value c.loop-after.invariant.0 c.in-Some.ensures.finds c.in_ok-next.ensures.gives (fewer
       c.loop-after.rest c.in-Some.after c.in-Some.ensures.moves)
       (fewer c.in-Some.after c.in_ok-next.behind c.in_ok-next.ensures.moves)),
   moves_on (moves_on c.loop-after.invariant.1 c.in-Some.ensures.moves) c.in_ok-next.ensures.moves,

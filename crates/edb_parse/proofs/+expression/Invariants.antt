@@ -19,6 +19,12 @@ decreases-expressions::node a = 40 * (a.levels + a.brackets) + 39
 abbrev pub decreases-expressions::matched : goal.decreases-expressions::matched
 decreases-expressions::matched a = 40 * (a.levels + a.brackets) + 38
 
+abbrev pub decreases-expressions::caught : goal.decreases-expressions::caught
+decreases-expressions::caught a = 40 * (a.levels + a.brackets) + 1
+
+abbrev pub decreases-expressions::bound : goal.decreases-expressions::bound
+decreases-expressions::bound a = 40 * (a.levels + a.brackets) + 1
+
 abbrev pub decreases-expressions::operated : goal.decreases-expressions::operated
 decreases-expressions::operated a = 40 * (a.levels + a.brackets) + 37
 
@@ -27,6 +33,9 @@ decreases-expressions::climb a = 40 * (a.levels + a.brackets) + 36
 
 abbrev pub decreases-calls::operand : goal.decreases-calls::operand
 decreases-calls::operand a = 40 * (a.levels + a.brackets) + 36
+
+abbrev pub decreases-calls::prefixed : goal.decreases-calls::prefixed
+decreases-calls::prefixed a = 40 * (a.levels + a.brackets) + 1
 
 abbrev pub decreases-calls::call : goal.decreases-calls::call
 decreases-calls::call a = 40 * (a.levels + a.brackets) + 35
@@ -48,6 +57,9 @@ decreases-primaries::primary a = 40 * (a.levels + a.brackets) + 31
 
 abbrev pub decreases-primaries::marked : goal.decreases-primaries::marked
 decreases-primaries::marked a = 40 * (a.levels + a.brackets) + 30
+
+abbrev pub decreases-primaries::tuple : goal.decreases-primaries::tuple
+decreases-primaries::tuple a = 40 * (a.levels + a.brackets) + 29
 
 abbrev pub decreases-primaries::parentheses : goal.decreases-primaries::parentheses
 decreases-primaries::parentheses a = 40 * (a.levels + a.brackets) + 29
@@ -155,7 +167,7 @@ abbrev pub decreases-bodies::body : goal.decreases-bodies::body
 decreases-bodies::body a = 40 * (a.levels + a.brackets) + 16
 
 abbrev pub invariant-expressions::climb-loop-operator : goal.invariant-expressions::climb-loop-operator
-invariant-expressions::climb-loop-operator l = Climbs l.levels l.brackets l.loosest l.line l.fn.first (toks l.tokens) l.level l.left (toks l.rest) ×
+invariant-expressions::climb-loop-operator l = Climbs l.levels l.brackets l.loosest l.line l.fn.first.value (toks l.tokens) l.level l.left.value (toks l.rest) ×
     Stays l.tokens l.rest
 
 abbrev pub decreases-expressions::climb-loop-operator : goal.decreases-expressions::climb-loop-operator
