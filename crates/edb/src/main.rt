@@ -1,29 +1,26 @@
 //! `edb SCRIPT FILE`: runs a module by a command file and writes the transcript to standard output.
 #![tactic(auto)]
 
-use edb_io::{DiskFiles, StdSink};
-use edb_session::session;
-use std::alloc::Global;
+use edb_io::{DiskFiles, StdSink, WordsFault, command_line};
+use edb_session::{End, session};
 use std::process::ExitCode;
-use std::rt::Env;
-use std::{env, io};
 
-/// The words of the command line, without the program's name.
-fn words(rt: &(impl Env + AllocGlobal), alloc: Global) -> io::Result<Vec<String>> {
-    let mut words = Vec::new(alloc);
-    for word in env::args(rt)?.skip(1) {
-        words.push(word)?;
-    }
-    Ok(words)
-}
+/// What is written to standard error if the words are refused.
+const USAGE: &str = "usage: edb SCRIPT FILE
+  SCRIPT  a file of debugger commands, one a line
+  FILE    an Erlang module, which the commands run and debug";
 
 fn main(rt: HostRuntime) -> ExitCode {
     let alloc = rt.alloc();
-    let words = match words(&rt, alloc) {
+    let words = match command_line(&rt) {
         Ok(words) => words,
-        Err(_) => Vec::new(alloc),
+        Err(WordsFault::NoMemory) => return ExitCode::from(8),
+        Err(WordsFault::NoText) => Vec::new(alloc),
     };
     let mut files = DiskFiles::new(rt, alloc);
     let (ending, _sink) = session(alloc, &words, &mut files, StdSink::new(rt));
+    if ending.end == End::Words {
+        let _ = rt.eprintln(USAGE);
+    }
     ExitCode::from(ending.status)
 }

@@ -33,7 +33,7 @@ option_or-None : {A : Type 0} (o : Option A) → option_or o None ≡ o
 option_or-None None = refl
 option_or-None (Some x) = refl
 
--- where nothing is found, no element passes
+-- if nothing is found, no element passes
 find-None : {X : Type 0} (p : X → Bool) (xs : List X) → find p xs ≡ None → All (λ x. p x ≡ false) xs
 find-None p [] e = All-nil (λ x. p x ≡ false)
 find-None p (x ∷ xs) e =
@@ -42,12 +42,12 @@ find-None p (x ∷ xs) e =
       | false ↦ λ t is. All-cons (λ y. p y ≡ false) x xs t (find-None p xs is)
     ] refl e
 
--- where no element passes, nothing is found
+-- if no element passes, nothing is found
 None-find : {X : Type 0} (p : X → Bool) (xs : List X) → All (λ x. p x ≡ false) xs → find p xs ≡ None
 None-find p [] a = refl
 None-find p (x ∷ xs) a = rw (All-head (λ y. p y ≡ false) x xs a) (None-find p xs (All-tail (λ y. p y ≡ false) x xs a))
 
--- the element at a place is found where it passes and none before it does
+-- the element at a place is found if it passes and none before it does
 find-at : {X : Type 0} (p : X → Bool) (xs : List X) (k : ℕ) (d : X) → k < length xs → p (get_or xs k d) ≡ true → ((j : ℕ) → j < k → p (get_or xs j d) ≡ false) → find p xs ≡ Some (get_or xs k d)
 find-at p [] k d h e before = absurd (omega arith)
 find-at p (x ∷ xs) zero d h e before = rw e refl
@@ -88,7 +88,7 @@ module _ (m : List ℕ) (l : ℕ) (t : Table) where
             (omega arith, omega arith);
       }
 
--- what holds of each two elements holds of their images, where f keeps it
+-- what holds of each two elements holds of their images, if f keeps it
 AllPairs-map : {X : Type 0} (R : X → X → Type 0) (f : X → X) → ((x y : X) → R x y → R (f x) (f y)) → (xs : List X) → AllPairs R xs → AllPairs R (map f xs)
 AllPairs-map R f keeps xs a j k d below within =
     let long : length (map f xs) ≡ length xs = length-map xs f in

@@ -1,7 +1,7 @@
 -- The table of breakpoints: its rows in the order of their making, and how many serials were given.
--- A row stands at a place, that is at a line of a module, and no two rows stand at one place. A new row
--- goes behind the others. It is active, has the action `enable` and no condition, and takes the next
--- serial, which is one more than were given: so serials count from 1, and none is given twice.
+-- A row is at a place, that is at a line of a module, and no two rows are at one place. A new row comes
+-- after the others. It is active, has the action `enable` and no condition, and takes the next serial,
+-- which is one more than were given: so serials count from 1, and no serial is given twice.
 
 use Rattle.std.specs.Prelude.{◌≡◌, ℕ, ◌+◌, ◌<◌, ◌≤◌, ◌==◌, ◌&&◌, nat_eq, Bool, if◌then◌else◌, List, [], ◌∷◌, ◌++◌, Option, None, All, AllPairs, find, map}
 use Rattle.std.specs.List.{list_any}
@@ -21,7 +21,7 @@ pub record Table : Type 0 where
 abbrev pub empty_table : Table
 empty_table = record { rows = []; given = 0 }
 
--- the row stands at this module and line
+-- the row is at this module and line
 abbrev pub IsAt : List ℕ → ℕ → BreakRow → Type 0
 IsAt m l r = (m ≡ r.module) × (l ≡ r.line)
 
@@ -45,7 +45,7 @@ new_row m l serial = record { «module» = m; line = l; row = new_break serial }
 abbrev pub with_row : List ℕ → ℕ → Table → Table
 with_row m l t = record { rows = t.rows ++ new_row m l (t.given + 1) ∷ []; given = t.given + 1 }
 
--- whether the row stands at this module and line and has this serial
+-- whether the row is at this module and line and has this serial
 abbrev pub is_row : ℕ → List ℕ → ℕ → BreakRow → Bool
 is_row serial m l r = is_at m l r && nat_eq r.row.serial serial
 
@@ -59,15 +59,15 @@ enabled_row serial m l r =
     if is_row serial m l r then record r { row = record r.row { status = Active } } else r
 
 -- The table once the breakpoint of a serial at a place was made active: all else is as it was, and so is
--- the whole table where no row at the place has the serial.
+-- the whole table if no row at the place has the serial.
 abbrev pub with_enabled : ℕ → List ℕ → ℕ → Table → Table
 with_enabled serial m l t = record t { rows = map (enabled_row serial m l) t.rows }
 
 -- what is true of every table
 pub record IsSound (t : Table) : Type 0 where
-  -- no two rows stand at one place
+  -- no two rows are at one place
   pub apart : AllPairs (λ r s. ¬ (IsAt r.module r.line s)) t.rows
-  -- each row's serial is below those of the rows behind it
+  -- each row's serial is below those of the rows after it
   pub ascending : AllPairs (λ r s. r.row.serial < s.row.serial) t.rows
   -- each row's serial is one of those that were given
   pub numbered : All (λ r. (1 ≤ r.row.serial) × (r.row.serial ≤ t.given)) t.rows

@@ -3,13 +3,13 @@
 ghost use Rattle.std.specs.Prelude.{◌≡◌, ◌+◌, ◌↔◌, ℕ, List, Some, None, All};
 ghost use Rattle.edb_breaks.specs.Table.{Table, IsSound, IsAt, new_break, row_at, with_row};
 
-/// Nothing is found at a place exactly where no row stands there.
+/// Nothing is found at a place exactly if no row is there.
 pub fn none_where_no_row_stands()
     ensures { (m : List ℕ) (l : ℕ) (t : Table)
         → (row_at m l t ≡ None) ↔ All (λ r. ¬ (IsAt m l r)) t.rows }
 {}
 
-/// Each row is found at its place, since no other row stands there.
+/// Each row is found at its place, since no other row is there.
 pub fn each_row_is_found()
     ensures { (t : Table) → IsSound t → All (λ r. row_at r.module r.line t ≡ Some r.row) t.rows }
 {}
@@ -28,7 +28,7 @@ pub fn other_places_stay()
         → row_at n k (with_row m l t) ≡ row_at n k t }
 {}
 
-/// A row that is added where none stands leaves rows apart and serials ascending.
+/// A row that is added at a free place leaves rows apart and serials ascending.
 pub fn table_stays_sound()
     ensures { (m : List ℕ) (l : ℕ) (t : Table)
         → row_at m l t ≡ None

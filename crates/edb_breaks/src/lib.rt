@@ -4,8 +4,6 @@
 mod laws;
 mod rows;
 mod table;
-#[cfg(test)]
-mod tests;
 
 pub use laws::{
     added_row_is_found, each_row_is_found, none_where_no_row_stands, other_places_stay,

@@ -45,9 +45,9 @@ impl Breaks {
         }
     }
 
-    /// Makes a breakpoint at a place and answers its serial, with the condition that fewer than 2^127
-    /// were given. `Exists` comes exactly where the place has one. Then, and where memory is refused,
-    /// the table stays as it was.
+    /// Makes a breakpoint at a place and answers its serial; fewer than 2^127 were given before. `Exists`
+    /// comes exactly if the place has one. The other error is out of memory. At either the table stays as
+    /// it was.
     #[tactic(auto, using(crate::proofs::TableLaws::tables))]
     pub fn add(&mut self, module: Name, line: u32) -> Result<Result<u128, Exists>, AllocError>
         requires { self.old.given < 2 ^ 127 }
@@ -80,7 +80,7 @@ impl Breaks {
         enable_rows(&mut self.rows, module, line, serial)
     }
 
-    /// The breakpoint at a place; none exactly where no row stands there.
+    /// The breakpoint at a place; `None` exactly if no row is there.
     pub fn at(&self, module: &Name, line: u32) -> Option<&Break>
         ensures row { option_copied result ≡ row_at «module».now line self.now }
         ensures sound { IsSound self.now }
@@ -95,7 +95,7 @@ impl Breaks {
         any_row(&self.rows, module, line, serial)
     }
 
-    /// The rows in the order of their making; refused only for want of memory.
+    /// The rows in the order of their making. The only error is out of memory.
     pub fn all(&self) -> Result<Vec<BreakRow>, AllocError>
         ensures rows { IfOk result (λ rows. rows.items ≡ self.now.rows) }
         ensures sound { IsSound self.now }
@@ -103,7 +103,7 @@ impl Breaks {
         copy_rows(self.alloc, &self.rows)
     }
 
-    /// An equal table; refused only for want of memory.
+    /// An equal table. The only error is out of memory.
     pub fn copy(&self) -> Result<Breaks, AllocError>
         ensures { IfOk result (λ breaks. breaks ≡ self.now) }
     {

@@ -2,7 +2,7 @@
 -- below is a tuple, and the variables of a row have no other binding than those that it tells.
 
 use Rattle.std.proofs.Common.{◌≡◌, ℕ, pos, List, [], ◌∷◌, ◌++◌, None, Some, codes, refl}
-use Rattle.edb_syntax.specs.declared.operation.BinaryOp.TheVariants.{Divide, Add, Append, GreaterThan}
+use Rattle.edb_lang.specs.declared.operators.BinaryOp.TheVariants.{Divide, Add, Append, GreaterThan}
 use Rattle.edb_syntax.specs.Patterns as pattern
 use Rattle.edb_syntax.specs.Patterns.{Pat}
 use Rattle.edb_syntax.specs.Syntax.{Exp, ClauseTree, Clauses, Catches, FunctionTree, ModuleTree, int, atom, string, float, variable, and_also, or_else, match, catch, begin, case, if_clauses, receive, receive_after, try, fun_clauses, fun_local, fun_remote, comprehension, none, more, sequence, no_after, after, no_guard, alternative, clause, no_clauses, more_clauses, catch_clause, no_catches, more_catches, generator, filter, no_qualifiers, more_qualifiers}

@@ -7,6 +7,7 @@ pub mod Going
 pub mod Items
 pub mod Keys
 pub mod Least
+pub mod Maps
 pub mod Marks
 pub mod NameLists
 pub mod NamedTests

@@ -3,8 +3,8 @@
 -- goes before a built-in of its name and arity, and may not be called there.
 
 use Rattle.std.specs.Prelude.{ℕ, Bool, true, false, ◌&&◌, not, if◌then◌else◌, List, [], ◌++◌, codes}
-use Rattle.edb_syntax.specs.declared.operation.BinaryOp.{BinaryOp}
-use Rattle.edb_syntax.specs.declared.operation.BinaryOp.TheVariants as operator
+use Rattle.edb_lang.specs.declared.operators.BinaryOp.{BinaryOp}
+use Rattle.edb_lang.specs.declared.operators.BinaryOp.TheVariants as operator
 use Rattle.edb_syntax.specs.declared.operation.Operation.{Operation}
 use Rattle.edb_syntax.specs.declared.operation.Operation.TheVariants as operation
 use Rattle.edb_syntax.specs.Syntax.{Exp, Exps, int, atom, string, float, variable, apply, and_also, or_else, match, catch, begin, case, if_clauses, receive, receive_after, try, fun_clauses, fun_local, fun_remote, comprehension, none, more}

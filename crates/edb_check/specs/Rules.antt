@@ -2,7 +2,7 @@
 -- module. What a part binds is in the scope of the parts behind it, whether it is faulty or not.
 
 use Rattle.std.specs.Prelude.{ℕ, Bool, not, Option, None, Some, List, [], ◌++◌, map}
-use Rattle.edb_syntax.specs.declared.operation.BinaryOp.TheVariants.{Divide}
+use Rattle.edb_lang.specs.declared.operators.BinaryOp.TheVariants.{Divide}
 use Rattle.edb_syntax.specs.declared.operation.Operation.{Operation}
 use Rattle.edb_syntax.specs.declared.operation.Operation.TheVariants.{Binary, LocalCall}
 use Rattle.edb_syntax.specs.Syntax.{Exp, Exps, Seq, After, Guards, ClauseTree, Clauses, CatchTree, Catches, QualifierTree, Qualifiers, int, atom, string, float, variable, apply, and_also, or_else, match, catch, begin, case, if_clauses, receive, receive_after, try, fun_clauses, fun_local, fun_remote, comprehension, none, more, sequence, no_after, after, no_guard, alternative, clause, no_clauses, more_clauses, catch_clause, no_catches, more_catches, generator, filter, no_qualifiers, more_qualifiers}

@@ -9,8 +9,8 @@ ghost use Rattle.edb_check.specs.Walking.{Walks, only};
 use crate::fault::CheckKind;
 use crate::known::Known;
 use crate::walk::Walk;
-use edb_lang::Name;
-use edb_syntax::{BinaryOp, Expr, ExprNode, Operation};
+use edb_lang::{BinaryOp, Name};
+use edb_syntax::{Expr, ExprNode, Operation};
 use edb_table::marks_of;
 
 // Whether a module has a built-in of this name, with so many parameters, that is a guard test.

@@ -2,6 +2,7 @@
 #![tactic(auto, using(crate::proofs::Walking::walking))]
 
 mod checked;
+mod code;
 mod expressions;
 mod fault;
 mod funs;
@@ -16,14 +17,13 @@ mod patterns;
 mod scope;
 mod status;
 mod stops;
-#[cfg(test)]
-mod tests;
 mod tries;
 mod verdict;
 mod walk;
 mod ways;
 
 pub use checked::Checked;
+pub use code::Code;
 pub use fault::{CheckFault, CheckKind};
 pub use laws::{accepted_or_refused, bound_by_each_way, never_both, one_verdict};
 pub use status::Status;

@@ -13,7 +13,8 @@ use crate::fault::CheckKind;
 use crate::known::Known;
 use crate::scope::meets;
 use crate::walk::Walk;
-use edb_syntax::{BinaryOp, Expr, Operation};
+use edb_lang::BinaryOp;
+use edb_syntax::{Expr, Operation};
 use std::alloc::AllocError;
 
 // Whether one of the two holds.

@@ -1,5 +1,5 @@
 -- The fields of a line part in one way alone.
-use Rattle.std.proofs.Common.{◌≡◌, ◌≢◌, ℕ, zero, suc, ◌<◌, Bool, true, false, not, List, [], ◌∷◌, ◌++◌, length, refl, sym, ap, ◌∙◌, subst, arith, append-nil, eqb-true, cond, get_or, Some}
+use Rattle.std.proofs.Common.{◌≡◌, ◌≢◌, ℕ, zero, suc, ◌<◌, Bool, true, false, not, List, [], ◌∷◌, ◌++◌, length, refl, sym, ap, ◌∙◌, subst, arith, append-nil, eqb-true, Some}
 use Rattle.std.specs.Prelude.{◌==◌, MatchBool}
 use Rattle.std.proofs.lemmas.List.{nil_from_length}
 use Rattle.std.specs.List.{list_all}
@@ -14,7 +14,9 @@ use Rattle.edb_event.specs.declared.call.Word.TheVariants as word
 use Rattle.edb_scan.specs.declared.lexeme.Token.TheVariants.{Atom}
 use Rattle.edb_scan.specs.Lexis.{Fits}
 use Rattle.edb_scan.specs.Fronts.{Stops}
-use Rattle.edb_cmds.specs.Fields.{Field, atom, line, process, status, status_text, AreFields, BeginsField, WritesProcess, end, next}
+use Rattle.edb_words.specs.Words.{status_word}
+use Rattle.edb_words.proofs.Distinct.{status_one}
+use Rattle.edb_cmds.specs.Fields.{Field, atom, line, process, status, AreFields, BeginsField, WritesProcess, end, next}
 use Rattle.edb_cmds.specs.Kinds.{stays_in_word, SplitsWord}
 use Rattle.edb_cmds.specs.Numbers.{WritesLine, WritesNumber}
 use Rattle.edb_cmds.specs.Script.{spaces}
@@ -65,7 +67,7 @@ abbrev pub Writes : List ℕ → Field → Type 0
 Writes w (atom m) = ⊥
 Writes w (line n) = WritesLine w n
 Writes w (process p) = WritesProcess w p
-Writes w (status s) = w ≡ status_text s
+Writes w (status s) = w ≡ status_word s
 
 -- one byte or more and no space
 abbrev pub IsBare : List ℕ → Type 0
@@ -88,7 +90,7 @@ digits_bare (c ∷ w) h = rw (digit_stays c h.0) (digits_bare w h.1)
 number_bare : (w : List ℕ) → IsNumeral 10 w → IsBare w
 number_bare w h = (λ e. absurd (omega (arith, ap length e)), digits_bare w h.1)
 
-status_bare : (s : ProcStatus) → IsBare (status_text s)
+status_bare : (s : ProcStatus) → IsBare (status_word s)
 status_bare Idle = (λ e. absurd (cc), refl)
 status_bare Running = (λ e. absurd (cc), refl)
 status_bare Waiting = (λ e. absurd (cc), refl)
@@ -124,7 +126,7 @@ begun : (from : List ℕ) (f : Field) (rest : List ℕ) → IsPlain f → Begins
 begun from (atom m) rest plain h = absurd plain
 begun from (line n) rest plain h = record { word = h.0; cut = h.1; writes = h.2 }
 begun from (process p) rest plain h = record { word = h.0; cut = h.1; writes = h.2 }
-begun from (status s) rest plain h = record { word = status_text s; cut = h; writes = refl }
+begun from (status s) rest plain h = record { word = status_word s; cut = h; writes = refl }
 
 begins : (from : List ℕ) (f : Field) (w rest : List ℕ) → IsPlain f → from ≡ w ++ rest → Writes w f → BeginsField from f rest
 begins from (atom m) w rest plain e h = absurd plain
@@ -228,23 +230,6 @@ process_one w (word.Own m) (word.Own n) h k =
 process_one w (word.Number m) _ h k = absurd k
 process_one w (word.Own m) _ h k = absurd k
 process_one w _ q h k = absurd h
-
--- the texts of statuses differ, since their first letters do
-abbrev letter : List ℕ → ℕ
-letter w = get_or w 0 0
-
-abbrev status_from : ℕ → ProcStatus
-status_from n = cond (n == 105) Idle (cond (n == 114) Running (cond (n == 119) Waiting (cond (n == 98) Break Exit)))
-
-status_back : (s : ProcStatus) → status_from (letter (status_text s)) ≡ s
-status_back Idle = refl
-status_back Running = refl
-status_back Waiting = refl
-status_back Break = refl
-status_back Exit = refl
-
-status_one : (s t : ProcStatus) → status_text s ≡ status_text t → s ≡ t
-status_one s t e = sym (status_back s) ∙ ap (λ w. status_from (letter w)) e ∙ status_back t
 
 -- what is left behind the first word, and what both say of it
 record BothSay (f g : Field) (fs gs : List Field) : Type 0 where

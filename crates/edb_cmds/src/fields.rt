@@ -1,10 +1,10 @@
 //! What stands behind the first word of a command.
 
-ghost use Rattle.std.specs.Prelude.{◌≡◌, ◌≢◌, List, ℕ, [], ◌∷◌, IfOk, MatchOption, MatchBool};
+ghost use Rattle.std.specs.Prelude.{◌≡◌, List, ℕ, [], ◌∷◌, IfOk, MatchOption, MatchBool};
 ghost use Rattle.edb_event.specs.declared.call.ProcStatus.{ProcStatus as Status};
 ghost use Rattle.edb_event.specs.declared.call.Word.{Word as Process};
 ghost use Rattle.edb_scan.specs.Fronts.{SplitsRun};
-ghost use Rattle.edb_cmds.specs.Fields.{atom, line, process, status, status_text, AreFields, WritesProcess};
+ghost use Rattle.edb_cmds.specs.Fields.{atom, line, process, status, AreFields, WritesProcess};
 ghost use Rattle.edb_cmds.specs.Kinds.{stays_in_word, SplitsWord};
 ghost use Rattle.edb_cmds.specs.Numbers.{WritesLine, WritesNumber};
 ghost use Rattle.edb_cmds.specs.Words.{SplitsGap};
@@ -12,6 +12,7 @@ ghost use Rattle.edb_cmds.specs.Words.{SplitsGap};
 use crate::words::{read_atom, skip_gap, skip_spaces};
 use edb_event::{ProcStatus, Word};
 use edb_lang::Name;
+use edb_words::status_named;
 use std::alloc::{AllocError, Global};
 
 // The most digits of a number.
@@ -90,28 +91,6 @@ fn process_of(word: &[u8]) -> Option<Word>
     }
 }
 
-// The status that a word is.
-fn status_of(word: &[u8]) -> Option<ProcStatus>
-    ensures { MatchOption result ((s : Status) → word.now ≢ status_text s) (λ s. word.now ≡ status_text s) }
-{
-    if word == b"idle".as_slice() {
-        return Some(ProcStatus::Idle);
-    }
-    if word == b"running".as_slice() {
-        return Some(ProcStatus::Running);
-    }
-    if word == b"waiting".as_slice() {
-        return Some(ProcStatus::Waiting);
-    }
-    if word == b"break".as_slice() {
-        return Some(ProcStatus::Break);
-    }
-    if word == b"exit".as_slice() {
-        return Some(ProcStatus::Exit);
-    }
-    None
-}
-
 // Whether nothing but spaces is left.
 fn is_end(text: &[u8]) -> bool
     ensures { MatchBool result (AreFields text.now []) (AreFields text.now [] → ⊥) }
@@ -133,7 +112,7 @@ fn read_last_status(text: &[u8]) -> Option<ProcStatus>
     ensures { MatchOption result ((s : Status) → AreFields text.now (status s ∷ []) → ⊥) (λ s. AreFields text.now (status s ∷ [])) }
 {
     let (word, rest) = take_word(text)?;
-    let found = status_of(word)?;
+    let found = status_named(word)?;
     if is_end(rest) { Some(found) } else { None }
 }
 

@@ -1,8 +1,6 @@
 //! The reader of scripts: the lines of one console, with one start among them.
 #![tactic(auto)]
 
-#[cfg(test)]
-mod checks;
 mod commands;
 mod fields;
 mod list;

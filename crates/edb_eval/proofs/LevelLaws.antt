@@ -11,7 +11,7 @@ use Rattle.edb_lang.specs.Syntax as syntax
 use Rattle.edb_lang.specs.Syntax.{Exp, Exps, FunctionTree, ModuleTree, line_of}
 use Rattle.edb_model.specs.Running.{Operation, operate, local_call, remote_call, Run, Runs, Info, value, variable, node, match, sequence, body, raised, none, more, running, all_running, all_values, opening_call, value_of, values_of}
 use Rattle.edb_model.specs.Lookup.{version_for, function_for}
-use Rattle.edb_model.specs.Move.{Place, Handler, Redex, look, apply, bind, begin, follow, finished, Effect, turns, leaves, raises, tells, within, if_some, closed, operand, before, within_body, outside, go, go_first, settled, error, fits, all_matched, matched, badmatch, most_nested, body_of, operated, entered, called, home_of, applied, rewrite, moved, answered}
+use Rattle.edb_model.specs.Move.{Place, Handler, Redex, look, apply, bind, begin, follow, finished, Effect, turns, leaves, raises, tells, within, if_some, closed, operand, before, within_body, outside, go, go_first, settled, error, fits, all_matched, matched, badmatch, unbound, most_nested, body_of, operated, entered, called, home_of, applied, rewrite, moved, answered}
 use Rattle.edb_eval.specs.declared.frames.Holder.{Holder}
 use Rattle.edb_eval.specs.declared.frames.Holder.TheVariants as holder
 use Rattle.edb_eval.specs.declared.frames.Frame.{Frame}
@@ -163,7 +163,7 @@ applied_within code current n p remote_call vs hp = remote_within code current n
 rewrite_keeps : (code : List ModuleTree) (current : List (List ℕ × ℕ)) (n : ℕ) → Keeps (rewrite code current) n (n + 1)
 rewrite_keeps code current n p (look x) hp hr =
     let least : 0 ≤ n + 1 = omega arith in
-    if_some_within highest (n + 1) (bound x p.bindings) (λ v. turns p.bindings (value v)) (error (codes "unbound")) (λ v. least) tt
+    if_some_within highest (n + 1) (bound x p.bindings) (λ v. turns p.bindings (value v)) (raises Error (framed unbound (term.atom x))) (λ v. least) tt
 rewrite_keeps code current n p (apply o vs) hp hr = applied_within code current n p o vs hp
 rewrite_keeps code current n p (bind q v) hp hr =
     let least : 0 ≤ n + 1 = omega arith in

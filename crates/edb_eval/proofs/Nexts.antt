@@ -3,7 +3,7 @@
 use Rattle.std.proofs.Common.{◌≡◌, ◌∙◌, ℕ, refl, ap, true, false, List, [], ◌∷◌, Option, None, Some}
 use Rattle.edb_lang.specs.Terms.{Datum}
 use Rattle.edb_lang.specs.Syntax.{Pat, Exp, Exps, exps_of, line_of}
-use Rattle.edb_model.specs.declared.act.ActKind.TheVariants as act
+use Rattle.edb_lang.specs.declared.act.ActKind.TheVariants as act
 use Rattle.edb_model.specs.Running.{Operation, Run, Runs, Info, value, variable, node, match, sequence, body, raised, none, more, running, all_running, unbegun, value_of, values_of}
 use Rattle.edb_model.specs.Move.{Place, Redex, begin, tells, before, operand, within_body, go, go_first, redex, next, next_at, begins, acts, pure}
 use Rattle.edb_eval.specs.declared.frames.Holder.{Holder}

@@ -2,7 +2,7 @@
 
 use Rattle.std.proofs.Common.{◌≡◌, ◌∙◌, ℕ, refl, ap, sym, true, false, List, [], ◌∷◌, codes}
 use Rattle.std.proofs.Common.{if◌then◌else◌}
-use Rattle.edb_model.specs.declared.act.ActKind.TheVariants as act
+use Rattle.edb_lang.specs.declared.act.ActKind.TheVariants as act
 use Rattle.edb_lang.specs.Terms as term
 use Rattle.edb_lang.specs.Terms.{Datum}
 use Rattle.edb_lang.specs.Syntax.{ModuleTree}

@@ -8,8 +8,7 @@ ghost use Rattle.edb_eval.specs.Tree.{pending_exps, held, operands, focus_tree, 
 ghost use Rattle.edb_lang.specs.Syntax.{nodes, all_nodes, more};
 
 use crate::frames::{Holder, Operation, Pending};
-use edb_lang::{Expr, Name, Pattern, Term};
-use edb_model::Rows;
+use edb_lang::{Expr, Name, Pattern, Rows, Term};
 use std::alloc::Global;
 
 /// What a move changes: a variable; an operation on values; a match of a value; a sequence that is not

@@ -14,8 +14,7 @@ ghost use Rattle.edb_eval.specs.Places.{at_body, is_tail};
 
 use crate::body::Body;
 use crate::stack::Stack;
-use edb_lang::{Bindings, Expr, Name, Op, Pattern, Term};
-use edb_model::Rows;
+use edb_lang::{Bindings, Expr, Name, Op, Pattern, Rows, Term};
 use std::alloc::Global;
 use std::marker::Model;
 

@@ -8,8 +8,7 @@ ghost use Rattle.edb_eval.specs.Tree.{operation_of};
 ghost use Rattle.edb_eval.specs.Glances.{leftmost, known_tree, known_nodes, cursor_runs, cursor_nodes, is_named, IsNotThree, Shows, Shown};
 
 use crate::frames::{Operation, Pending};
-use edb_lang::{Expr, ExprNode, Name, Node, Term};
-use edb_model::ActKind;
+use edb_lang::{ActKind, Expr, ExprNode, Name, Node, Term};
 use std::alloc::{AllocError, Global};
 
 /// What is next: an expression of a sequence is begun, at this module and line; another pure move; or a

@@ -4,7 +4,7 @@ ghost use Rattle.std.specs.Prelude.{◌≡◌, ◌<◌, ◌≤◌, ◌+◌, ◌^
 ghost use Rattle.std.specs.List.{list_any};
 ghost use Rattle.std.specs.Option.{option_map};
 ghost use Rattle.edb_lang.specs.TermText.{same_name};
-ghost use Rattle.edb_model.specs.declared.act.ActKind.TheVariants as act;
+ghost use Rattle.edb_lang.specs.declared.act.ActKind.TheVariants as act;
 ghost use Rattle.edb_lang.specs.Terms as term;
 ghost use Rattle.edb_model.specs.Running.{opening_call, remote_call};
 ghost use Rattle.edb_model.specs.Lookup.{first_versions};
@@ -23,8 +23,8 @@ use crate::frames::Frames;
 use crate::glance::{Kind, names_display};
 use crate::reasons::{error_exit, failure, throw_exit};
 use crate::running::{Outcome, Running};
-use edb_lang::{Class, Name, Term};
-use edb_model::{ActKind, Code, Rows};
+use edb_lang::{ActKind, Class, Name, Rows, Term};
+use edb_model::Code;
 use std::alloc::{AllocError, Global};
 
 /// The machine of a process: contracts see the running expression that it stands for.

@@ -4,7 +4,7 @@ ghost use Rattle.std.specs.Prelude.{◌≡◌, ◌<◌, ◌≤◌, ◌+◌, ◌^
 ghost use Rattle.std.specs.List.{list_any};
 ghost use Rattle.std.specs.Option.{option_map};
 ghost use Rattle.edb_lang.specs.TermText.{same_name};
-ghost use Rattle.edb_model.specs.declared.act.ActKind.TheVariants as act;
+ghost use Rattle.edb_lang.specs.declared.act.ActKind.TheVariants as act;
 ghost use Rattle.edb_model.specs.Running.{opening_call};
 ghost use Rattle.edb_model.specs.Lookup.{first_versions};
 ghost use Rattle.edb_model.specs.Move.{next, redex, is_move, moved, answered, acts};

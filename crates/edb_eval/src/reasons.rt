@@ -4,7 +4,7 @@ ghost use Rattle.std.specs.Prelude.{◌≡◌, IfOk};
 ghost use Rattle.edb_lang.specs.Terms.{framed, tuple, more, none, atom};
 ghost use Rattle.edb_lang.specs.Limits.{limited};
 ghost use Rattle.edb_model.specs.Acts as acts;
-ghost use Rattle.edb_model.specs.Move.{badmatch};
+ghost use Rattle.edb_model.specs.Move.{badmatch, unbound};
 
 use edb_lang::{Limit, Name, Term};
 use std::alloc::{AllocError, Global};
@@ -39,6 +39,20 @@ pub fn mismatch(alloc: Global, value: &Term) -> Result<Term, AllocError>
                 Err(_) => unreachable!(),
             }
         }
+    }
+}
+
+/// The reason of a look at a variable that has no value; refused only if out of memory.
+pub fn no_value(alloc: Global, name: &Name) -> Result<Term, AllocError>
+    ensures { IfOk result (λ reason. reason ≡ framed unbound (atom name.now)) }
+{
+    match pair(
+        alloc,
+        failure(alloc, "unbound")?,
+        Term::atom(name.copy(alloc)?),
+    )? {
+        Ok(reason) => Ok(reason),
+        Err(_) => unreachable!(),
     }
 }
 

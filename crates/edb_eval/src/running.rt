@@ -5,7 +5,7 @@ ghost use Rattle.std.specs.List.{list_any};
 ghost use Rattle.edb_lang.specs.Syntax.{nodes};
 ghost use Rattle.edb_lang.specs.TermText.{same_name};
 ghost use Rattle.edb_lang.specs.Terms as term;
-ghost use Rattle.edb_model.specs.declared.act.ActKind.TheVariants as act;
+ghost use Rattle.edb_lang.specs.declared.act.ActKind.TheVariants as act;
 ghost use Rattle.edb_model.specs.Running.{running, remote_call, value_of, value as valued};
 ghost use Rattle.edb_model.specs.Lookup.{first_versions, version_beside};
 ghost use Rattle.edb_model.specs.Move as move;
@@ -25,9 +25,9 @@ use crate::calls::{Called, Entry, Site, call, match_value};
 use crate::focus::{Focus, Redex};
 use crate::frames::{Frame, Frames, Holder, Info, Operation, Pending, is_among};
 use crate::glance::{Cursor, Glance, Kind, Known, code_glance, operands_glance};
-use crate::reasons::{failure, mismatch};
-use edb_lang::{Class, Expr, ExprNode, Name, Node, Op, Pattern, Term};
-use edb_model::{ActKind, Code, Rows};
+use crate::reasons::{failure, mismatch, no_value};
+use edb_lang::{ActKind, Class, Expr, ExprNode, Name, Node, Op, Pattern, Rows, Term};
+use edb_model::Code;
 use std::alloc::{AllocError, Global};
 use std::mem;
 
@@ -299,7 +299,7 @@ impl<'a> Running<'a> {
     {
         match self.here.bindings.get(name) {
             Some(value) => Ok(Applied::Gives(value.copy(alloc)?)),
-            None => Ok(Applied::Fails(failure(alloc, "unbound")?)),
+            None => Ok(Applied::Fails(no_value(alloc, name)?)),
         }
     }
 

@@ -2,7 +2,7 @@
 
 use Rattle.std.proofs.Common.{◌≡◌, List, [], ◌∷◌, codes, refl}
 use Rattle.edb_lang.specs.Terms.{nil}
-use Rattle.edb_model.specs.declared.act.ActKind.TheVariants as act
+use Rattle.edb_lang.specs.declared.act.ActKind.TheVariants as act
 use Rattle.edb_event.specs.declared.call.Call.TheVariants as call
 use Rattle.edb_event.specs.declared.reply.Reply.TheVariants as reply
 use Rattle.edb_event.specs.declared.entry.Entry.{Entry}

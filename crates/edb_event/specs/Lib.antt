@@ -1,4 +1,3 @@
 pub mod Weights
 pub mod Ranges
 pub mod Books
-pub mod Erasure

@@ -10,6 +10,7 @@ use Rattle.edb_event.specs.declared.call.Call.TheVariants as call
 use Rattle.edb_event.specs.declared.call.Word.{Word}
 use Rattle.edb_event.specs.declared.call.Word.TheVariants as word
 use Rattle.edb_event.specs.declared.call.Command.{Command}
+use Rattle.edb_event.specs.declared.reply.Refusal.TheVariants as refusal
 use Rattle.edb_event.specs.declared.reply.Reply.{Reply}
 use Rattle.edb_event.specs.declared.reply.Reply.TheVariants as reply
 use Rattle.edb_event.specs.Weights.{weight}
@@ -68,7 +69,8 @@ IsProper _ = ⊥
 abbrev pub IsList : Datum → Type 0
 IsList args = IsProper args × IsLiteral args × IsWithin args
 
--- The words of a command are in range: atoms, lines, arities, versions, numbers of processes, flags.
+-- The words of a command are in range: atoms, lines, arities, versions, numbers of processes, flags. No script can
+-- spell `skip`, `kill` and `timeout` yet.
 abbrev pub IsCall : Call → Type 0
 IsCall (call.Start m f args) = IsShort m × IsShort f × IsList args
 IsCall (call.Load m v) = IsShort m × IsVersion v
@@ -98,6 +100,9 @@ IsCall (call.Next p) = IsNumber p
 IsCall (call.Finish p) = IsNumber p
 IsCall (call.Halt p) = IsNumber p
 IsCall (call.Continue p) = IsNumber p
+IsCall (call.Skip p) = ⊥
+IsCall (call.Kill p) = ⊥
+IsCall (call.Timeout p) = ⊥
 IsCall (call.Bindings p) = IsNumber p
 IsCall (call.Frames p) = IsNumber p
 IsCall (call.Await p s) = IsNumber p
@@ -112,10 +117,18 @@ MayAnswer (call.Load m v) (reply.Refused why) = Unit {0}
 MayAnswer (call.Load m v) _ = ⊥
 MayAnswer _ _ = Unit {0}
 
--- the fields of an entry are in range
+-- a reply of today: nothing is refused as `not_waiting` yet
+abbrev pub IsReply : Reply → Type 0
+IsReply (reply.Refused refusal.NotWaiting) = ⊥
+IsReply _ = Unit {0}
+
+-- the fields of an entry are in range; the entries of `skip`, `kill` and `timeout` aren't in any journal yet
 abbrev pub IsEntry : Entry → Type 0
 IsEntry (entry.Start c p m f args) = IsConsole c × IsCall (call.Start m f args)
 IsEntry (entry.Load c m v) = IsConsole c × IsShort m
+IsEntry (entry.Skip c p) = ⊥
+IsEntry (entry.Kill c p) = ⊥
+IsEntry (entry.Expire c p) = ⊥
 IsEntry (entry.Lease p b) = Unit {0}
 IsEntry (entry.Ran p n c) = Unit {0}
 IsEntry (entry.Ask p k) = Unit {0}
@@ -128,7 +141,7 @@ IsEntry (entry.Signal p r) = Unit {0}
 IsEntry (entry.Advance t) = Unit {0}
 IsEntry (entry.Stop p m l n by) = IsShort m
 IsEntry (entry.Trigger p m l s a applied) = IsShort m
-IsEntry (entry.Served c x r) = IsConsole c × IsCall x × MayAnswer x r
+IsEntry (entry.Served c x r) = IsConsole c × IsCall x × MayAnswer x r × IsReply r
 
 -- the greatest weight of a journal
 abbrev pub most_weight : ℕ

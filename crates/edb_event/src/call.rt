@@ -2,8 +2,7 @@
 
 ghost use Rattle.std.specs.Prelude.{◌≡◌, IfOk};
 
-use edb_lang::{Action, Name, Term};
-use edb_model::Rows;
+use edb_lang::{Action, Name, Rows, Term};
 use std::alloc::{AllocError, Global};
 
 /// What a process is doing, as the debugger shows it.
@@ -160,6 +159,18 @@ pub enum Call {
     Continue {
         pid: u32,
     },
+    /// Leaves out the expression at which a process stopped.
+    Skip {
+        pid: u32,
+    },
+    /// Ends a process.
+    Kill {
+        pid: u32,
+    },
+    /// Lets the time of a process that waits for a message run out.
+    Timeout {
+        pid: u32,
+    },
     /// Lists the variables of a stopped process's innermost call.
     Bindings {
         pid: u32,
@@ -272,6 +283,9 @@ impl Call {
             Call::Finish { pid } => Ok(Call::Finish { pid: *pid }),
             Call::Halt { pid } => Ok(Call::Halt { pid: *pid }),
             Call::Continue { pid } => Ok(Call::Continue { pid: *pid }),
+            Call::Skip { pid } => Ok(Call::Skip { pid: *pid }),
+            Call::Kill { pid } => Ok(Call::Kill { pid: *pid }),
+            Call::Timeout { pid } => Ok(Call::Timeout { pid: *pid }),
             Call::Bindings { pid } => Ok(Call::Bindings { pid: *pid }),
             Call::Frames { pid } => Ok(Call::Frames { pid: *pid }),
             Call::Await { pid, status } => Ok(Call::Await {

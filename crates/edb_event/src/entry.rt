@@ -4,8 +4,7 @@ ghost use Rattle.std.specs.Prelude.{◌≡◌, ◌<◌, ◌^◌};
 ghost use Rattle.edb_event.specs.Weights.{weight_of};
 
 use crate::{Call, Reply};
-use edb_lang::{Action, Bytes, Name, Term};
-use edb_model::ActKind;
+use edb_lang::{ActKind, Action, Bytes, Name, Term};
 
 /// Why a process stopped: by an order of a console, or by the breakpoint with this serial.
 #[derive(Clone, Copy, PartialEq, Eq, Debug)]
@@ -30,6 +29,21 @@ pub enum Entry {
         console: u32,
         module: Name,
         version: u32,
+    },
+    /// A console left out the expression at which a process stopped. No rule admits it yet.
+    Skip {
+        console: u32,
+        pid: u32,
+    },
+    /// A console ended a process. No rule admits it yet.
+    Kill {
+        console: u32,
+        pid: u32,
+    },
+    /// A console let the time of a process that waits for a message run out. No rule admits it yet.
+    Expire {
+        console: u32,
+        pid: u32,
     },
     /// A process was given leave to make pure moves, at most `budget`.
     Lease {

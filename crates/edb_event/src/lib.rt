@@ -10,8 +10,6 @@ mod journal;
 mod laws;
 mod reply;
 mod scripts;
-#[cfg(test)]
-mod tests;
 
 pub use call::{AutoFlag, Call, Command, ProcStatus, TraceWord, Word};
 pub use entry::{Cause, Entry, entry_weight};

@@ -3,8 +3,7 @@
 ghost use Rattle.std.specs.Prelude.{◌≡◌, IfOk};
 
 use crate::ProcStatus;
-use edb_lang::Bytes;
-use edb_model::Rows;
+use edb_lang::{Bytes, Rows};
 use std::alloc::{AllocError, Global};
 
 /// Why a command was refused.
@@ -30,6 +29,8 @@ pub enum Refusal {
     NotStopped,
     /// As many processes were made as ever may be.
     SystemLimit,
+    /// The process doesn't wait for a message. No command is refused so yet.
+    NotWaiting,
 }
 
 /// The answer to a command: done; refused; a process with the status that was awaited; that nothing

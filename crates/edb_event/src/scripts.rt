@@ -5,7 +5,7 @@ ghost use Rattle.edb_event.specs.Ranges.{IsConsole, IsCommand, AreCommands};
 ghost use Rattle.edb_event.specs.Books.{no_commands, commands_of, with_command};
 
 use crate::Command;
-use edb_model::Rows;
+use edb_lang::Rows;
 use std::alloc::{AllocError, Global};
 use std::marker::Model;
 

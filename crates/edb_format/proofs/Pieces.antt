@@ -4,12 +4,13 @@ use Rattle.std.proofs.Common.{◌≡◌, ℕ, List, [], ◌∷◌, ◌++◌, Opt
 use Rattle.std.proofs.lemmas.Bool.{ne_eqb}
 use Rattle.std.specs.Option.{option_and_then, option_map}
 use Rattle.edb_lang.specs.Terms.{Datum, nil, cons}
-use Rattle.edb_format.specs.Formats.{point_of, characters_of, elements_of, shown, behind, formatted, directed, format_text_of}
+use Rattle.edb_format.specs.Formats.{shown, behind, formatted, directed, format_text_of}
+use Rattle.edb_lang.specs.ListTerms.{point_of, characters_of, elements_of}
 use Rattle.edb_format.specs.Putting.{directed_text_of, IsRefusal}
 use Rattle.edb_format.specs.declared.unwritten.Unwritten.{Unwritten}
 use Rattle.edb_format.specs.declared.unwritten.Unwritten.TheVariants.{Memory, Refused}
 
--- a text behind two others, and behind none
+-- a text after two others, and after none
 pub behind_behind : (x y : List ℕ) (o : Option (List ℕ)) → behind x (behind y o) ≡ behind (x ++ y) o
 behind_behind x y None = refl
 behind_behind x y (Some text) = ap Some (sym (append_assoc x y text))
@@ -75,7 +76,7 @@ shown_put front whole h t x a c is no_newline no_tilde = put (shown c x) refl
         rw (term_taken text h t x a c is (λ cs ts. rw (ne_eqb c 110 no_newline, ne_eqb c 126 no_tilde, shows) refl))
         (behind_behind front text (format_text_of t a) ∙ ap (λ o. option_and_then (λ w. behind w (format_text_of t a)) o) e)
 
--- where a part of a text isn't there
+-- if a part of a text isn't there
 nowhere : (f : List ℕ → List Datum → Option (List ℕ)) (cs : Option (List ℕ)) (ts : Option (List Datum)) → ((cs : List ℕ) (ts : List Datum) → f cs ts ≡ None)
     → option_and_then (λ cs. option_and_then (f cs) ts) cs ≡ None
 nowhere f None ts each = refl
@@ -96,7 +97,7 @@ pub no_list_behind : (format a : Datum) → elements_of a ≡ None → directed_
 unfolding directed_text_of
 no_list_behind format a is = rw is (nowhere (λ cs ts. None) (characters_of format) None (λ cs ts. refl))
 
--- nothing stands behind a tilde
+-- nothing stands after a tilde
 pub no_letter : (a : Datum) → directed_text_of nil a ≡ None
 unfolding directed directed_text_of
 no_letter a = nowhere (λ cs. directed []) (Some []) (elements_of a) (λ cs ts. refl)
@@ -129,7 +130,7 @@ not_shown h t x a c is no_newline no_tilde shows = rw is (left (characters_of t)
     left (Some cs) None = refl
     left (Some cs) (Some ts) = rw (ne_eqb c 110 no_newline, ne_eqb c 126 no_tilde, shows) refl
 
--- where a part isn't there, the whole isn't, and the refusal is the part's
+-- if a part isn't there, the whole isn't, and the refusal is the part's
 pub passed_on : {X : Type 0} (result : Result X Unwritten) (e : Unwritten) (part whole : Option (List ℕ)) → IsRefusal e part → result ≡ Err e → (part ≡ None → whole ≡ None)
     → IfErr result (λ e. IsRefusal e whole)
 passed_on {X} result Memory part whole h is fails = let P : Result X Unwritten → Type 0 = λ r. IfErr r (λ e. IsRefusal e whole) in subst P (sym is) tt

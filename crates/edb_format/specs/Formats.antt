@@ -1,38 +1,21 @@
 -- Formats: the text that a format makes of the terms that it takes.
 
 use Rattle.std.specs.Prelude.{ℕ, pos, if◌then◌else◌, ◌==◌, List, [], ◌∷◌, ◌++◌, Option, None, Some, encode_utf8, encode_utf8_all}
-use lib.Utf8.{scalar}
 use Rattle.std.specs.Option.{option_and_then, option_map}
-use Rattle.edb_lang.specs.Terms.{Datum, int, atom, nil, cons}
+use Rattle.edb_lang.specs.Terms.{Datum, atom}
+use Rattle.edb_lang.specs.ListTerms.{elements_of, characters_of}
 use Rattle.edb_lang.specs.TermText.{term_text, plain_text}
-
--- the code point that a term is: an integer up to 1114111 that is no surrogate
-abbrev pub point_of : Datum → Option ℕ
-point_of (int (pos c)) = if scalar c then Some c else None
-point_of _ = None
-
--- the characters of a string: a list of code points that ends in nil
-abbrev pub characters_of : Datum → Option (List ℕ)
-characters_of nil = Some []
-characters_of (cons h t) = option_and_then (λ c. option_map (λ cs. c ∷ cs) (characters_of t)) (point_of h)
-characters_of _ = None
-
--- the elements of a list that ends in nil
-abbrev pub elements_of : Datum → Option (List Datum)
-elements_of nil = Some []
-elements_of (cons h t) = option_map (λ ts. h ∷ ts) (elements_of t)
-elements_of _ = None
 
 -- a string in UTF-8
 abbrev pub utf8_of : Datum → Option (List ℕ)
 utf8_of t = option_map encode_utf8_all (characters_of t)
 
--- an atom's characters or a string's, as they stand
+-- an atom's characters or a string's, as they are
 abbrev pub bare_text : Datum → Option (List ℕ)
 bare_text (atom name) = Some name
 bare_text t = utf8_of t
 
--- what a letter shows of a term: `p` its text, `w` its text without strings, `s` an atom or a string as it stands
+-- what a letter shows of a term: `p` its text, `w` its text without strings, `s` an atom or a string as it is
 abbrev pub shown : ℕ → Datum → Option (List ℕ)
 shown letter t =
     if letter == 112 then Some (term_text t)
@@ -40,7 +23,7 @@ shown letter t =
     else if letter == 115 then bare_text t
     else None
 
--- what the character behind a tilde writes, and the terms that it leaves: `n` a newline, `~` a tilde, and a letter that
+-- what the character after a tilde writes, and the terms that it leaves: `n` a newline, `~` a tilde, and a letter that
 -- shows a term takes the first one
 abbrev pub directive : ℕ → List Datum → Option (List ℕ × List Datum)
 directive c ts = if c == 110 then Some (10 ∷ [], ts) else if c == 126 then Some (126 ∷ [], ts) else showing c ts
@@ -49,11 +32,11 @@ directive c ts = if c == 110 then Some (10 ∷ [], ts) else if c == 126 then Som
     showing c [] = None
     showing c (t ∷ ts) = option_map (λ text. (text, ts)) (shown c t)
 
--- the text behind another one
+-- the text after another one
 abbrev pub behind : List ℕ → Option (List ℕ) → Option (List ℕ)
 behind front = option_map (λ text. front ++ text)
 
--- The text that the characters of a format make of terms: a tilde and the character behind it are a directive, each
+-- The text that the characters of a format make of terms: a tilde and the character after it are a directive, each
 -- other character stands for itself, and at the end no term is left.
 unfoldable mutual
   pub formatted : List ℕ → List Datum → Option (List ℕ)
@@ -61,7 +44,7 @@ unfoldable mutual
   formatted [] (t ∷ ts) = None
   formatted (c ∷ cs) ts = if c == 126 then directed cs ts else behind (encode_utf8 c) (formatted cs ts)
 
-  -- the same directly behind a tilde
+  -- the same directly after a tilde
   pub directed : List ℕ → List Datum → Option (List ℕ)
   directed [] ts = None
   directed (c ∷ cs) ts = option_and_then (λ d. behind d.0 (formatted cs d.1)) (directive c ts)

@@ -16,7 +16,7 @@ use std::alloc::{AllocError, Global};
 #[derive(Clone, Copy, PartialEq, Eq, Debug)]
 pub struct BadFormat;
 
-/// The text of a term, without strings; refused only for want of memory.
+/// The text of a term, without strings; fails only when out of memory.
 pub fn plain_text(alloc: Global, shown: &Term) -> Result<Bytes, AllocError>
     ensures { IfOk result (λ bytes. bytes ≡ plain_text shown.now) }
 {
@@ -27,7 +27,7 @@ pub fn plain_text(alloc: Global, shown: &Term) -> Result<Bytes, AllocError>
 
 /// The text that a format makes of its arguments. `BadFormat`: the format is no string; another character or
 /// none follows a tilde; the arguments are no list of as many terms as are taken; `~s` takes neither an atom nor a
-/// string. `AllocError` only for want of memory.
+/// string. `AllocError` only when out of memory.
 pub fn format_text(
     alloc: Global,
     format: &Term,
@@ -85,7 +85,7 @@ fn put_piece<'a>(
     }
 }
 
-/// Puts the directive of the character behind a tilde. What is left of the format and its arguments comes back.
+/// Puts the directive of the character after a tilde. What is left of the format and its arguments comes back.
 fn put_directive<'a>(
     out: &mut Vec<u8>,
     alloc: Global,

@@ -3,8 +3,6 @@
 
 mod formats;
 mod strings;
-#[cfg(test)]
-mod tests;
 mod unwritten;
 
 pub use formats::{BadFormat, format_text, plain_text};

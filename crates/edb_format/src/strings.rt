@@ -2,14 +2,15 @@
 
 ghost use Rattle.std.specs.Prelude.{◌≡◌, ◌++◌, Some, OnOk, IfErr, encode_utf8};
 ghost use Rattle.edb_lang.specs.Terms as term;
-ghost use Rattle.edb_format.specs.Formats.{point_of, utf8_of, bare_text, behind};
+ghost use Rattle.edb_format.specs.Formats.{utf8_of, bare_text, behind};
+ghost use Rattle.edb_lang.specs.ListTerms.{point_of};
 ghost use Rattle.edb_format.specs.Putting.{IsRefusal};
 
 use crate::unwritten::Unwritten;
 use edb_lang::{Node, Term};
 use std::alloc::AllocError;
 
-/// The character of an integer, where it is a code point.
+/// The character of an integer, if it is a code point.
 fn integer_point(value: i128) -> Option<char>
     ensures { result ≡ point_of (term.int value) }
 {
@@ -19,7 +20,7 @@ fn integer_point(value: i128) -> Option<char>
     }
 }
 
-/// The character that a term is, where it is a code point.
+/// The character that a term is, if it is a code point.
 pub(crate) fn code_point(shown: &Term) -> Option<char>
     ensures { result ≡ point_of shown.now }
 {
@@ -57,7 +58,7 @@ fn put_string(out: &mut Vec<u8>, string: &Term) -> Result<(), Unwritten>
     }
 }
 
-/// Puts an atom's characters or a string's as they stand, or refuses what is neither.
+/// Puts an atom's characters or a string's as they are, or refuses what is neither.
 pub(crate) fn put_bare(out: &mut Vec<u8>, shown: &Term) -> Result<(), Unwritten>
     ensures ok { OnOk result (behind out.old.items (bare_text shown.now) ≡ Some out.new.items) }
     ensures err { IfErr result (λ e. IsRefusal e (bare_text shown.now)) }

@@ -4,7 +4,7 @@ use Rattle.std.proofs.Common.{◌≡◌, ◌⊎◌, inl, inr, ℕ, zero, suc, �
 use Rattle.std.proofs.lemmas.Bool.Decides.{nat_tests}
 use Rattle.edb_scan.specs.declared.lexeme.Mark.{Mark}
 use Rattle.edb_scan.specs.declared.lexeme.Mark.TheVariants as mark
-use Rattle.edb_syntax.specs.declared.operation.BinaryOp.TheVariants as op
+use Rattle.edb_lang.specs.declared.operators.BinaryOp.TheVariants as op
 use Rattle.edb_syntax.specs.Depths.{depth}
 use Rattle.edb_syntax.specs.Syntax.{Exp}
 use Rattle.edb_grammar.specs.Toks.{Place, Tok, word, line_at}

@@ -5,7 +5,7 @@ use Rattle.std.proofs.lemmas.Bool.{false≢true}
 use Rattle.std.proofs.lemmas.Bool.Decides.{nat_tests}
 use Rattle.edb_scan.specs.declared.lexeme.Mark.{Mark}
 use Rattle.edb_scan.specs.declared.lexeme.Token.TheVariants as token
-use Rattle.edb_syntax.specs.declared.operation.BinaryOp.TheVariants as op
+use Rattle.edb_lang.specs.declared.operators.BinaryOp.TheVariants as op
 use Rattle.edb_syntax.specs.Depths.{depth}
 use Rattle.edb_syntax.specs.Syntax.{Exp}
 use Rattle.edb_grammar.specs.Toks.{Place, Tok, tok, word, line_at}

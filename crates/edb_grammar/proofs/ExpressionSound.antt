@@ -5,7 +5,7 @@ use Rattle.edb_scan.specs.declared.lexeme.Mark.{Mark}
 use Rattle.edb_scan.specs.declared.lexeme.Mark.TheVariants as mark
 use Rattle.edb_scan.specs.declared.lexeme.Token.TheVariants as token
 use Rattle.edb_scan.specs.declared.lexeme.Token.TheVariants.{Int, Float, Char, Atom, Var, Str}
-use Rattle.edb_syntax.specs.declared.operation.UnaryOp.{UnaryOp}
+use Rattle.edb_lang.specs.declared.operators.UnaryOp.{UnaryOp}
 use Rattle.edb_syntax.specs.Depths.{depth}
 use Rattle.edb_syntax.specs.Forms.{unary, remote_call, call}
 use Rattle.edb_syntax.specs.Patterns.{Pat}

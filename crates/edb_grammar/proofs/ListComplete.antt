@@ -5,7 +5,7 @@ use Rattle.std.proofs.lemmas.Bool.{false≢true}
 use Rattle.edb_scan.specs.declared.lexeme.Mark.{Mark}
 use Rattle.edb_scan.specs.declared.lexeme.Mark.TheVariants as mark
 use Rattle.edb_scan.specs.declared.lexeme.Token.TheVariants.{Float}
-use Rattle.edb_syntax.specs.declared.operation.UnaryOp.{UnaryOp}
+use Rattle.edb_lang.specs.declared.operators.UnaryOp.{UnaryOp}
 use Rattle.edb_syntax.specs.Syntax.{Exp, Exps}
 use Rattle.edb_grammar.specs.Toks.{Place, Tok, tok, word, line_at}
 use Rattle.edb_grammar.specs.Marks.{same_mark}

@@ -6,7 +6,7 @@ use Rattle.edb_scan.specs.declared.lexeme.Mark.{Mark}
 use Rattle.edb_scan.specs.declared.lexeme.Mark.TheVariants as mark
 use Rattle.edb_scan.specs.declared.lexeme.Token.TheVariants as token
 use Rattle.edb_scan.specs.declared.lexeme.Token.TheVariants.{Int, Char, Atom, Var, Str}
-use Rattle.edb_syntax.specs.declared.operation.UnaryOp.{UnaryOp}
+use Rattle.edb_lang.specs.declared.operators.UnaryOp.{UnaryOp}
 use Rattle.edb_syntax.specs.Patterns.{Pat, Pats}
 use Rattle.edb_syntax.specs.Depths.{depth}
 use Rattle.edb_syntax.specs.Syntax.{Exp, Exps, Seq, After, Guards, ClauseTree, Clauses, CatchTree, Catches, QualifierTree, Qualifiers}

@@ -4,8 +4,8 @@ use Rattle.std.proofs.Common.{◌≡◌, pos, [], ◌∷◌, Some, None, refl, c
 use Rattle.edb_scan.specs.declared.lexeme.Mark.{Mark}
 use Rattle.edb_scan.specs.declared.lexeme.Mark.TheVariants as mark
 use Rattle.edb_scan.specs.declared.lexeme.Token.TheVariants.{Int, Atom, Var, Str}
-use Rattle.edb_syntax.specs.declared.operation.BinaryOp.TheVariants as op
-use Rattle.edb_syntax.specs.declared.operation.UnaryOp.TheVariants as before
+use Rattle.edb_lang.specs.declared.operators.BinaryOp.TheVariants as op
+use Rattle.edb_lang.specs.declared.operators.UnaryOp.TheVariants as before
 use Rattle.edb_syntax.specs.declared.operation.Operation.TheVariants.{LocalCall}
 use Rattle.edb_syntax.specs.Forms as form
 use Rattle.edb_syntax.specs.Patterns as pattern

@@ -7,7 +7,7 @@ use Rattle.edb_scan.specs.declared.lexeme.Token.{Token}
 use Rattle.edb_scan.specs.declared.lexeme.Token.TheVariants as token
 use Rattle.edb_scan.specs.declared.lexeme.Token.TheVariants.{Int, Atom, Var, Dot}
 use Rattle.edb_scan.specs.declared.lexeme.Placed.{Placed}
-use Rattle.edb_syntax.specs.declared.operation.BinaryOp.TheVariants as op
+use Rattle.edb_lang.specs.declared.operators.BinaryOp.TheVariants as op
 use Rattle.edb_syntax.specs.declared.operation.Operation.TheVariants.{LocalCall}
 use Rattle.edb_syntax.specs.Forms as form
 use Rattle.edb_syntax.specs.Patterns as pattern

@@ -6,7 +6,7 @@ use Rattle.std.specs.Prelude.{◌≡◌, ℕ, suc, ◌≤◌, Bool, true, false,
 use Rattle.edb_scan.specs.declared.lexeme.Mark.{Mark}
 use Rattle.edb_scan.specs.declared.lexeme.Mark.TheVariants as mark
 use Rattle.edb_scan.specs.declared.lexeme.Token.TheVariants.{Int, Float, Char, Atom, Var}
-use Rattle.edb_syntax.specs.declared.operation.UnaryOp.{UnaryOp}
+use Rattle.edb_lang.specs.declared.operators.UnaryOp.{UnaryOp}
 use Rattle.edb_syntax.specs.Forms.{tuple, list, list_with_tail, unary, remote_call, call}
 use Rattle.edb_syntax.specs.Patterns as pattern
 use Rattle.edb_syntax.specs.Patterns.{Pat, Pats, pats_count}

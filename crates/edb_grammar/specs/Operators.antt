@@ -4,10 +4,10 @@
 use Rattle.std.specs.Prelude.{ℕ, ◌-◌, ◌==◌, cond, Option, None, Some}
 use Rattle.edb_scan.specs.declared.lexeme.Mark.{Mark}
 use Rattle.edb_scan.specs.declared.lexeme.Mark.TheVariants as mark
-use Rattle.edb_syntax.specs.declared.operation.UnaryOp.{UnaryOp}
-use Rattle.edb_syntax.specs.declared.operation.UnaryOp.TheVariants as unary
-use Rattle.edb_syntax.specs.declared.operation.BinaryOp.{BinaryOp}
-use Rattle.edb_syntax.specs.declared.operation.BinaryOp.TheVariants as binary
+use Rattle.edb_lang.specs.declared.operators.UnaryOp.{UnaryOp}
+use Rattle.edb_lang.specs.declared.operators.UnaryOp.TheVariants as unary
+use Rattle.edb_lang.specs.declared.operators.BinaryOp.{BinaryOp}
+use Rattle.edb_lang.specs.declared.operators.BinaryOp.TheVariants as binary
 use Rattle.edb_syntax.specs.Forms as form
 use Rattle.edb_syntax.specs.Syntax.{Exp, and_also, or_else}
 

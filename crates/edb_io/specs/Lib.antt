@@ -1,3 +1,4 @@
+pub mod OneRead
 pub mod Faults
 pub mod Reads
 pub mod Writes

@@ -9,7 +9,7 @@ use crate::reading::{FileRead, Files, ReadFault, note_read};
 use edb_lang::Bytes;
 use std::alloc::{AllocError, Global};
 
-/// Files in memory on which a read fails only for want of memory: a name that was not added is an
+/// Files in memory on which a read fails only out of memory: a name that was not added is an
 /// empty file.
 #[derive(Drop)]
 pub struct CleanFiles {
@@ -31,7 +31,7 @@ impl CleanFiles {
         }
     }
 
-    /// Gives the file with this name this content, whatever it had. Where memory is refused the
+    /// Gives the file with this name this content, whatever it had. If it is out of memory the
     /// files stay as they were.
     pub fn add(&mut self, name: &str, content: &[u8]) -> Result<(), AllocError>
         ensures ok { OnOk result (
@@ -57,7 +57,7 @@ impl Files for CleanFiles {
     fn read(&mut self, alloc: Global, name: &str, most: u32) -> Result<Bytes, ReadFault> {
         let content = find_file(self.held.as_slice(), name).unwrap_or(&[]);
         let bytes = first_bytes(alloc, content, most)?;
-        note_read(&mut self.reads, alloc, name, most, Some(bytes.as_slice()))?;
+        note_read(&mut self.reads, alloc, name, most, Some(&bytes))?;
         Ok(bytes)
     }
 }

@@ -6,7 +6,7 @@ use crate::writing::{Sink, SinkFault};
 use edb_lang::Bytes;
 use std::alloc::Global;
 
-/// A sink in memory on which a write fails only for want of memory.
+/// A sink in memory on which a write fails only out of memory.
 #[derive(Drop)]
 pub struct CleanSink {
     bytes: Bytes,

@@ -1,6 +1,10 @@
 //! The files of the system.
 
-ghost use Rattle.std.specs.Prelude.{◌≡◌, ◌≤◌, [], length, IfOk, None};
+ghost use Rattle.std.specs.Prelude.{◌≡◌, ◌≤◌, [], ℕ, List, Option, length, take, IfOk, OnOk, None, Some};
+ghost use Rattle.std.specs.Option.{option_map};
+ghost use Rattle.std.specs.Result.{IsErrOf};
+ghost use Rattle.edb_io.specs.Faults.{Rose};
+ghost use Rattle.edb_io.specs.Reads.{Lists};
 
 use crate::reading::{FileRead, Files, ReadFault, note_read};
 use edb_lang::Bytes;
@@ -42,10 +46,29 @@ impl<R: Folder + Drop> Files for DiskFiles<R> {
 
     ghost reads = { λ files. files.reads.items };
 
-    fn read(&mut self, alloc: Global, name: &str, most: u32) -> Result<Bytes, ReadFault> {
+    /// The first `most` bytes of the file. The count of faults rises only with a `Failed`.
+    fn read(&mut self, alloc: Global, name: &str, most: u32) -> Result<Bytes, ReadFault>
+        ensures listed { Lists (⟦<DiskFiles<R> as Files>⟧.reads self.old)
+            (⟦<DiskFiles<R> as Files>⟧.reads self.new)
+            name.now most result }
+        ensures bounded { IfOk result (λ bytes. length bytes ≤ most) }
+        ensures content { IfOk result (λ bytes. (files : List ℕ → Option (List ℕ))
+            → ⟦<DiskFiles<R> as Files>⟧.contents self.old ≡ Some files
+            → option_map (take most) (files name.now) ≡ Some bytes) }
+        ensures same { ⟦<DiskFiles<R> as Files>⟧.contents self.new
+            ≡ ⟦<DiskFiles<R> as Files>⟧.contents self.old }
+        ensures later { ⟦<DiskFiles<R> as Files>⟧.faults self.old
+            ≤ ⟦<DiskFiles<R> as Files>⟧.faults self.new }
+        ensures cause { IsErrOf result ReadFault.Failed
+            → Rose (⟦<DiskFiles<R> as Files>⟧.faults self.old)
+            (⟦<DiskFiles<R> as Files>⟧.faults self.new) }
+
+        ensures steady { OnOk result (⟦<DiskFiles<R> as Files>⟧.faults self.new
+            ≡ ⟦<DiskFiles<R> as Files>⟧.faults self.old) }
+    {
         match read_start(&self.rt, alloc, name, most) {
             Ok(bytes) => {
-                note_read(&mut self.reads, alloc, name, most, Some(bytes.as_slice()))?;
+                note_read(&mut self.reads, alloc, name, most, Some(&bytes))?;
                 Ok(bytes)
             }
             Err(ReadFault::Failed) => {
@@ -58,8 +81,8 @@ impl<R: Folder + Drop> Files for DiskFiles<R> {
     }
 }
 
-/// The first `most` bytes of a file of the system, or all of a shorter one. `Failed` comes where it
-/// can't be opened or a read of it fails, `NoMemory` where memory for the bytes is refused.
+/// The first `most` bytes of a file of the system, or all of a shorter one. `Failed` comes if it
+/// can't be opened or a read of it fails, `NoMemory` if it is out of memory.
 fn read_start<R: Folder>(rt: &R, alloc: Global, name: &str, most: u32) -> Result<Bytes, ReadFault>
     ensures { IfOk result (λ bytes. length bytes ≤ most) }
 {

@@ -14,7 +14,7 @@ pub(crate) struct HeldFile {
     pub content: Bytes,
 }
 
-/// Puts a file behind those that are held; where memory is refused they stay as they were.
+/// Puts a file after those that are held; if it is out of memory they stay as they were.
 pub(crate) fn hold_file(
     held: &mut Vec<HeldFile>,
     alloc: Global,
@@ -44,7 +44,7 @@ pub(crate) fn find_file<'a>(held: &'a [HeldFile], name: &str) -> Option<&'a [u8]
     found
 }
 
-/// A copy of the first `most` bytes, or of all where there are fewer; refused only for want of
+/// A copy of the first `most` bytes, or of all if there are fewer. `Err` comes only out of
 /// memory.
 pub(crate) fn first_bytes(alloc: Global, content: &[u8], most: u32) -> Result<Bytes, AllocError>
     ensures { IfOk result (λ bytes. bytes ≡ take most content.now) }

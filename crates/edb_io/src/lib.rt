@@ -1,5 +1,6 @@
 //! The outside of the project: files that are read whole and a sink that is written to, as traits
-//! that tell what a call did, with implementations over memory and over the system.
+//! that say what a call did, with implementations over memory and over the system; and the words of
+//! the command line.
 #![tactic(auto)]
 
 mod clean_files;
@@ -10,8 +11,7 @@ mod mem_files;
 mod mem_sink;
 mod reading;
 mod std_sink;
-#[cfg(test)]
-mod tests;
+mod words;
 mod writing;
 
 pub use clean_files::CleanFiles;
@@ -21,4 +21,5 @@ pub use mem_files::MemFiles;
 pub use mem_sink::MemSink;
 pub use reading::{FileRead, Files, ReadFault};
 pub use std_sink::StdSink;
+pub use words::{WordsFault, command_line};
 pub use writing::{Sink, SinkFault};

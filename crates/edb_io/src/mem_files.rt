@@ -46,8 +46,8 @@ impl MemFiles {
         }
     }
 
-    /// Adds a file. Where there is one with this name, it has the new content from now on. Where
-    /// memory is refused the files stay as they were.
+    /// Adds a file. Where there is one with this name, it has the new content from now on. If it
+    /// is out of memory the files stay as they were.
     pub fn add(&mut self, name: &str, content: &[u8]) -> Result<(), AllocError>
         ensures ok { OnOk result (
             option_map (λ files. with_file files name.now content.now)
@@ -65,7 +65,7 @@ impl MemFiles {
         hold_file(&mut self.held, self.alloc, name, content)
     }
 
-    /// Lets the read with this number fail, counted from 1. Where memory is refused everything
+    /// Lets the read with this number fail, counted from 1. If it is out of memory everything
     /// stays as it was.
     pub fn fail(&mut self, call: u32) -> Result<(), AllocError>
         ensures ok { OnOk result (failing_reads self.new ≡ failing_reads self.old ++ call ∷ []) }
@@ -93,7 +93,7 @@ impl Files for MemFiles {
     ghost reads = { λ files. files.reads.items };
 
     /// The first `most` bytes of the content. `Failed` comes exactly where this read is one that is
-    /// to fail or no file has the name, unless memory is refused.
+    /// to fail or no file has the name, unless it is out of memory.
     fn read(&mut self, alloc: Global, name: &str, most: u32) -> Result<Bytes, ReadFault>
         ensures listed { Lists (⟦<MemFiles as Files>⟧.reads self.old)
             (⟦<MemFiles as Files>⟧.reads self.new)
@@ -127,7 +127,7 @@ impl Files for MemFiles {
         match found {
             Some(content) => {
                 let bytes = first_bytes(alloc, content, most)?;
-                note_read(&mut self.reads, alloc, name, most, Some(bytes.as_slice()))?;
+                note_read(&mut self.reads, alloc, name, most, Some(&bytes))?;
                 Ok(bytes)
             }
             None => {

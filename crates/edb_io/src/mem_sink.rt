@@ -42,7 +42,7 @@ impl MemSink {
     }
 
     /// Lets the write with this number fail, counted from 1 without the writes of empty pieces.
-    /// Where memory is refused everything stays as it was.
+    /// If it is out of memory everything stays as it was.
     pub fn fail(&mut self, call: u32) -> Result<(), AllocError>
         ensures ok { OnOk result (failing_writes self.new ≡ failing_writes self.old ++ call ∷ []) }
         ensures err { OnErr result (failing_writes self.new ≡ failing_writes self.old) }

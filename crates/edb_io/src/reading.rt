@@ -4,22 +4,34 @@ ghost use Rattle.std.specs.Prelude.{◌≡◌, ◌≤◌, ◌++◌, ◌∷◌, [
 ghost use Rattle.std.specs.Option.{option_copied, option_map};
 ghost use Rattle.std.specs.Result.{IsErrOf};
 ghost use Rattle.edb_io.specs.Faults.{Rose};
+ghost use Rattle.edb_io.specs.OneRead.{Read};
 ghost use Rattle.edb_io.specs.Reads.{Lists, file_read};
-ghost use Rattle.edb_io.specs.declared.reading.FileRead.{FileRead};
 ghost use Rattle.edb_io.specs.declared.reading.ReadFault.TheVariants.{NoMemory};
 
 use edb_lang::Bytes;
 use std::alloc::{AllocError, Global};
+use std::marker::Model;
+use std::snapshot::Snapshot;
 
-/// One read, as files keep it in the list of their reads.
+/// One read, as files keep it in the list of their reads: the name, the most bytes that were asked
+/// for, and those that were answered, or none if the read failed. The bytes are kept for contracts
+/// alone, and no copy of them is made.
 #[derive(Drop)]
 pub struct FileRead {
-    /// The name of the file.
-    pub name: Bytes,
-    /// The most bytes that were asked for.
-    pub most: u32,
-    /// The bytes that were answered; none where the read failed.
-    pub bytes: Option<Bytes>,
+    name: Bytes,
+    most: u32,
+    bytes: Option<Snapshot<Bytes>>,
+}
+
+impl Model for FileRead {
+    ghost use Rattle.edb_io.specs.OneRead.{Read, coded_read};
+    ghost use Rattle.std.specs.Option.{option_map};
+
+    ghost Value = { Read };
+
+    ghost coded = { coded_read };
+
+    ghost view = { λ r. record { name = r.name; most = r.most; bytes = option_map (λ seen. seen.value) r.bytes } };
 }
 
 /// Why a read gave no bytes.
@@ -27,7 +39,7 @@ pub struct FileRead {
 pub enum ReadFault {
     /// The file is missing or could not be read; the count of faults rose.
     Failed,
-    /// Memory was refused; the read isn't listed.
+    /// Out of memory; the read isn't listed.
     NoMemory,
 }
 
@@ -39,19 +51,19 @@ impl From<AllocError> for ReadFault {
     }
 }
 
-/// Files that are read by their names. Contracts see three things of them: the contents by name,
-/// where they are told; a count of the faults so far; and the list of the reads.
+/// Files that are read by their names. Contracts see three things of them: the contents by name, if
+/// these are known; a count of the faults so far; and the list of the reads.
 pub trait Files {
     ghost contents: { Self → Option (List ℕ → Option (List ℕ)) };
 
     ghost faults: { Self → ℕ };
 
-    ghost reads: { Self → List FileRead };
+    ghost reads: { Self → List Read };
 
     /// The first `most` bytes of the file with this name, or all of a shorter file.
     ///
-    /// `Failed` comes only where the count of faults rose, as it does where the file is missing.
-    /// `NoMemory` comes where memory was refused. The contents never change.
+    /// `Failed` comes only if the count of faults rose, as it does if the file is missing. `NoMemory`
+    /// comes if it is out of memory. The contents never change.
     fn read(&mut self, alloc: Global, name: &str, most: u32) -> Result<Bytes, ReadFault>
         ensures listed { Lists (reads self.old) (reads self.new) name.now most result }
         ensures bounded { IfOk result (λ bytes. length bytes ≤ most) }
@@ -64,13 +76,13 @@ pub trait Files {
             → Rose (faults self.old) (faults self.new) };
 }
 
-/// Puts a read at the end of the list; where memory is refused the list stays as it was.
+/// Puts a read at the end of the list. If it is out of memory the list stays as it was.
 pub(crate) fn note_read(
     reads: &mut Vec<FileRead>,
     alloc: Global,
     name: &str,
     most: u32,
-    answer: Option<&[u8]>,
+    answer: Option<&Bytes>,
 ) -> Result<(), AllocError>
     ensures ok { OnOk result (reads.new.items
         ≡ reads.old.items ++ file_read name.now most (option_copied answer.entry) ∷ []) }
@@ -78,7 +90,7 @@ pub(crate) fn note_read(
 {
     let name = Bytes::from_slice(alloc, name.as_bytes())?;
     let bytes = match answer {
-        Some(bytes) => Some(Bytes::from_slice(alloc, bytes)?),
+        Some(bytes) => Some(Snapshot::of(bytes)),
         None => None,
     };
     reads.push(FileRead { name, most, bytes })?;

@@ -1,6 +1,9 @@
 //! The standard output.
 
-ghost use Rattle.std.specs.Prelude.{◌≡◌, false, None};
+ghost use Rattle.std.specs.Prelude.{◌≡◌, ◌≤◌, [], true, false, None, OnOk, OnErr, IsOk};
+ghost use Rattle.std.specs.Result.{IsErrOf};
+ghost use Rattle.edb_io.specs.Faults.{Rose};
+ghost use Rattle.edb_io.specs.Writes.{Appended, AppendedPart};
 
 use crate::writing::{Sink, SinkFault};
 
@@ -34,7 +37,30 @@ impl<R: Print + Drop> Sink for StdSink<R> {
 
     ghost flagged = { λ sink. sink.flagged };
 
-    fn write(&mut self, piece: &[u8]) -> Result<(), SinkFault> {
+    /// Writes the piece. The count of faults rises only with a `Failed`.
+    fn write(&mut self, piece: &[u8]) -> Result<(), SinkFault>
+        ensures ok { OnOk result (
+            Appended (⟦<StdSink<R> as Sink>⟧.written self.old)
+            (⟦<StdSink<R> as Sink>⟧.written self.new) piece.now) }
+        ensures part { OnErr result (
+            AppendedPart (⟦<StdSink<R> as Sink>⟧.written self.old)
+            (⟦<StdSink<R> as Sink>⟧.written self.new) piece.now) }
+        ensures none { IsErrOf result SinkFault.NoMemory
+            → ⟦<StdSink<R> as Sink>⟧.written self.new ≡ ⟦<StdSink<R> as Sink>⟧.written self.old }
+        ensures later { ⟦<StdSink<R> as Sink>⟧.faults self.old
+            ≤ ⟦<StdSink<R> as Sink>⟧.faults self.new }
+        ensures cause { IsErrOf result SinkFault.Failed
+            → Rose (⟦<StdSink<R> as Sink>⟧.faults self.old) (⟦<StdSink<R> as Sink>⟧.faults self.new) }
+        ensures uncounted { IsErrOf result SinkFault.NoMemory
+            → ⟦<StdSink<R> as Sink>⟧.faults self.new ≡ ⟦<StdSink<R> as Sink>⟧.faults self.old }
+        ensures kept { OnOk result (
+            ⟦<StdSink<R> as Sink>⟧.flagged self.new ≡ ⟦<StdSink<R> as Sink>⟧.flagged self.old) }
+        ensures set { OnErr result (⟦<StdSink<R> as Sink>⟧.flagged self.new ≡ true) }
+        ensures empty { piece.now ≡ [] → IsOk result }
+
+        ensures steady { OnOk result (⟦<StdSink<R> as Sink>⟧.faults self.new
+            ≡ ⟦<StdSink<R> as Sink>⟧.faults self.old) }
+    {
         if piece.is_empty() {
             return Ok(());
         }

@@ -10,7 +10,7 @@ ghost use Rattle.edb_io.specs.Writes.{Appended, AppendedPart};
 pub enum SinkFault {
     /// The sink did not take the whole piece; the count of faults rose.
     Failed,
-    /// Memory was refused; nothing was written.
+    /// Out of memory; nothing was written.
     NoMemory,
 }
 
@@ -23,7 +23,7 @@ pub trait Sink {
 
     ghost flagged: { Self → Bool };
 
-    /// Writes the piece behind what was written.
+    /// Writes the piece after what was written.
     ///
     /// After `Failed` a prefix of the piece was written, and it comes only where the count of
     /// faults rose. After `NoMemory` nothing was written, and the count is as it was. A write of an

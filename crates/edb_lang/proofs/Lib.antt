@@ -3,4 +3,5 @@ pub mod OrderLaws
 pub mod PairsLaws
 pub mod OrderChain
 pub mod Measures
-pub mod Rows
+pub mod CellLemmas
+pub mod TermRows

@@ -1,5 +1,6 @@
 pub mod Terms
 pub mod Order
+pub mod ListTerms
 pub mod Pairs
 pub mod Syntax
 pub mod Stored

@@ -32,14 +32,10 @@ Ascends [] = Unit {0}
 Ascends (p ∷ []) = Unit {0}
 Ascends (p ∷ (q ∷ ps)) = (slice_cmp nat_cmp p.0 q.0 ≡ Less) × Ascends (q ∷ ps)
 
--- the pairs in a fun's own form, and back
+-- the pairs in a fun's own form
 abbrev pub captures_of : Pairs → Captures
 captures_of [] = uncaptured
 captures_of (p ∷ ps) = captured p.0 p.1 (captures_of ps)
-
-abbrev pub pairs_in : Captures → Pairs
-pairs_in uncaptured = []
-pairs_in (captured x t cs) = (x, t) ∷ pairs_in cs
 
 -- the pairs with others, one by one
 abbrev pub with_pairs : Pairs → Pairs → Pairs

@@ -91,7 +91,7 @@ impl Model for Term {
 pub struct Limit;
 
 // A term is at most so high and so large.
-const MOST_HIGH: u32 = 4_000;
+pub(crate) const MOST_HIGH: u32 = 4_000;
 
 const MOST_LARGE: u32 = 100_000;
 
@@ -283,7 +283,7 @@ impl Term {
     }
 
     // The term, unless it is past a limit.
-    fn within(self) -> Result<Term, Limit>
+    pub(crate) fn within(self) -> Result<Term, Limit>
         ensures { result ≡ limited self }
     {
         if self.walk(MOST_HIGH, MOST_LARGE).is_none() {

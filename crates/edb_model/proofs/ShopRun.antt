@@ -5,7 +5,7 @@ use Rattle.edb_lang.specs.declared.small.Op.TheVariants.{Add}
 use Rattle.edb_lang.specs.Terms as term
 use Rattle.edb_lang.specs.Syntax.{Pat, Exp, Exps, FunctionTree, ModuleTree}
 use Rattle.edb_lang.specs.Syntax as syntax
-use Rattle.edb_model.specs.declared.act.ActKind.TheVariants as act
+use Rattle.edb_lang.specs.declared.act.ActKind.TheVariants as act
 use Rattle.edb_model.specs.Running.{Run, value, opening_call}
 use Rattle.edb_model.specs.Lookup.{first_versions}
 use Rattle.edb_model.specs.Move.{Next, begins, acts, pure, next, redex, moved, answered, go}

@@ -6,11 +6,11 @@ use Rattle.edb_lang.specs.declared.small.Class.TheVariants.{Error, Exit, Throw}
 use Rattle.edb_lang.specs.Terms as term
 use Rattle.edb_lang.specs.Terms.{Datum, framed}
 use Rattle.edb_lang.specs.TermText.{term_text}
-use Rattle.edb_model.specs.declared.act.ActKind.{ActKind}
-use Rattle.edb_model.specs.declared.act.ActKind.TheVariants as act
+use Rattle.edb_lang.specs.declared.act.ActKind.{ActKind}
+use Rattle.edb_lang.specs.declared.act.ActKind.TheVariants as act
 use Rattle.edb_model.specs.Running.{Run, value, variable, node, match, sequence, body, raised}
 use Rattle.edb_model.specs.Move.{Redex, look, apply, bind, begin, follow, finished, Next, begins, acts, pure, next, redex, answered}
-use Rattle.edb_model.specs.Plain.{Process, Plain, process_at, with_process}
+use Rattle.edb_model.specs.Plain.{Plain, with_running, ended}
 
 -- the tuple that an error's reason, or an uncaught throw's value, is put into
 abbrev pub error_exit : Datum → Datum
@@ -35,13 +35,9 @@ displayed _ = []
 abbrev pub true_term : Datum
 true_term = term.atom (codes "true")
 
--- The process ends: it has no more to do, and its mailbox, monitors and deadline go.
-abbrev pub ended : Process → Datum → Process
-ended q reason = record q { running = None; mailbox = []; monitors = []; deadline = None; exit = Some reason }
-
 -- the state after the act that is next for process p, whose expression is t; none where no act is next
 abbrev pub acted : Plain → ℕ → Run → Next → Option Plain
 acted s p t (acts act.Print) =
-    Some (record (with_process s p (record (process_at s p) { running = Some (answered true_term t) })) { output = s.output ++ displayed (redex t).1 })
-acted s p t (acts act.End) = Some (with_process s p (ended (process_at s p) (exit_reason t)))
+    Some (record (with_running s p (Some (answered true_term t))) { output = s.output ++ displayed (redex t).1 })
+acted s p t (acts act.End) = Some (ended s p (exit_reason t))
 acted s p t _ = None

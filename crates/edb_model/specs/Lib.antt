@@ -2,6 +2,8 @@ pub mod Running
 pub mod Innermost
 pub mod Lookup
 pub mod Move
+pub mod Bonds
+pub mod Procs
 pub mod Plain
 pub mod Acts
 pub mod Labels

@@ -18,8 +18,8 @@ use Rattle.edb_lang.specs.Pairs.{Pairs, bound, with_pair}
 use Rattle.edb_lang.specs.Syntax as syntax
 use Rattle.edb_lang.specs.Syntax.{Pat, Exp, Exps, FunctionTree, ModuleTree, line_of}
 use Rattle.edb_lang.specs.TermText.{same_name}
-use Rattle.edb_model.specs.declared.act.ActKind.{ActKind}
-use Rattle.edb_model.specs.declared.act.ActKind.TheVariants as act
+use Rattle.edb_lang.specs.declared.act.ActKind.{ActKind}
+use Rattle.edb_lang.specs.declared.act.ActKind.TheVariants as act
 use Rattle.edb_model.specs.Running.{Operation, operate, local_call, remote_call, Info, Run, value, variable, node, match, sequence, body, raised, Runs, none, more, running, unbegun, value_of, values_of}
 use Rattle.edb_model.specs.Lookup.{version_for, function_for}
 
@@ -187,9 +187,13 @@ applied code current p remote_call vs = error (codes "badarg")
 abbrev pub badmatch : Datum → Datum
 badmatch v = term.tuple (term.more (term.atom (codes "badmatch")) (term.more v term.none))
 
+-- the reason of a look at a variable that has no value
+abbrev pub unbound : Datum → Datum
+unbound v = term.tuple (term.more (term.atom (codes "unbound")) (term.more v term.none))
+
 -- the table of moves
 abbrev pub rewrite : List ModuleTree → List (List ℕ × ℕ) → Handler
-rewrite code current p (look x) = if_some (bound x p.bindings) (λ v. turns p.bindings (value v)) (error (codes "unbound"))
+rewrite code current p (look x) = if_some (bound x p.bindings) (λ v. turns p.bindings (value v)) (raises Error (framed unbound (term.atom x)))
 rewrite code current p (apply o vs) = applied code current p o vs
 rewrite code current p (bind q v) = if_some (matched q v p.bindings) (λ bs. turns bs (value v)) (raises Error (framed badmatch v))
 rewrite code current p (begin l t es) = turns p.bindings (sequence true l t es)

@@ -1,70 +1,51 @@
 -- The plain state: all processes and what they share, without a debugger.
 
-use Rattle.std.specs.Prelude.{ℕ, ◌+◌, Bool, true, false, cond, List, [], ◌∷◌, Option, None, Some}
-use Rattle.std.specs.Prelude.{suc, zero, slice_index_or, slice_set}
+use Rattle.std.specs.Prelude.{ℕ, List, [], ◌∷◌, ◌++◌, Option, None, Some}
 use Rattle.edb_lang.specs.Terms.{Datum}
 use Rattle.edb_lang.specs.Syntax.{ModuleTree}
-use Rattle.edb_model.specs.declared.tables.MonitorRow.{MonitorRow}
-use Rattle.edb_model.specs.declared.tables.NameRow.{NameRow}
-use Rattle.edb_model.specs.declared.tables.SignalRow.{SignalRow}
-use Rattle.edb_model.specs.declared.tables.ProcRow.{ProcRow}
 use Rattle.edb_model.specs.declared.tables.Tables.{Tables}
 use Rattle.edb_model.specs.Running.{Run}
 use Rattle.edb_model.specs.Lookup.{first_versions}
+use Rattle.edb_model.specs.Procs.{Procs, no_procs, new_member, numbered, with_numbered, ended_in, process_rows}
 
--- A process: what it still has to do, which is nothing once it has ended; its mailbox; the processes that
--- it is linked to; its monitors; whether it traps exits; its deadline; and its reason, once it has ended.
-pub record Process : Type 0 where
-  pub running : Option Run
-  pub mailbox : List Datum
-  pub links : List ℕ
-  pub monitors : List MonitorRow
-  pub trap : Bool
-  pub deadline : Option ℕ
-  pub exit : Option Datum
-
--- All processes, by number from 1; the registered names; the signals in flight; the current versions;
--- the clock; what was printed; and how many references were made.
+-- What the processes share; what each has to do, by number from 1, which is nothing once it has ended; the current
+-- versions; and what was printed.
 pub record Plain : Type 0 where
-  pub processes : List Process
-  pub names : List NameRow
-  pub signals : List SignalRow
+  pub procs : Procs
+  pub running : List (Option Run)
   pub versions : List (List ℕ × ℕ)
-  pub clock : ℕ
   pub output : List ℕ
-  pub references : ℕ
 
 -- at first there is no process, and version 1 of each module is current
 abbrev pub opening : List ModuleTree → Plain
-opening code = record { processes = []; names = []; signals = []; versions = first_versions code; clock = 0; output = []; references = 0 }
+opening code = record { procs = no_procs; running = []; versions = first_versions code; output = [] }
 
--- a process that does this next
-abbrev pub newborn : Run → Process
-newborn t = record { running = Some t; mailbox = []; links = []; monitors = []; trap = false; deadline = None; exit = None }
+-- what process p has to do, and the state in which it does something else
+abbrev pub running_at : Plain → ℕ → Option Run
+running_at s p = numbered None s.running p
 
--- what stands for a number that no process has
-abbrev pub nobody : Process
-nobody = record { running = None; mailbox = []; links = []; monitors = []; trap = false; deadline = None; exit = None }
+abbrev pub with_running : Plain → ℕ → Option Run → Plain
+with_running s p t = record s { running = with_numbered s.running p t }
 
--- process p, and the state with another process p
-abbrev pub process_at : Plain → ℕ → Process
-process_at s zero = nobody
-process_at s (suc n) = slice_index_or s.processes n nobody
+-- one process more, which does this
+abbrev pub with_newborn : Plain → Run → Plain
+with_newborn s t =
+    record s { procs = record s.procs { members = s.procs.members ++ new_member ∷ [] }; running = s.running ++ Some t ∷ [] }
 
-abbrev pub with_process : Plain → ℕ → Process → Plain
-with_process s zero q = s
-with_process s (suc n) q = record s { processes = slice_set s.processes n q }
-
--- the rows that show the processes, numbered from n on
-abbrev pub process_rows : ℕ → List Process → List ProcRow
-process_rows n [] = []
-process_rows n (q ∷ qs) =
-    record { pid = n; mailbox = q.mailbox; links = q.links; monitors = q.monitors; trap = q.trap; deadline = q.deadline; exit = q.exit }
-    ∷ process_rows (n + 1) qs
+-- THE END OF A PROCESS, whatever ends it: it has no more to do, and what it shared with others is settled.
+abbrev pub ended : Plain → ℕ → Datum → Plain
+ended s p reason = record (with_running s p None) { procs = ended_in p reason s.procs }
 
 -- what a run leaves to be seen
 abbrev pub tables_of : Plain → Tables
-tables_of s = record { processes = process_rows 1 s.processes; names = s.names; signals = s.signals; clock = s.clock; output = s.output }
+tables_of s =
+    record {
+      processes = process_rows s.procs.bonds 1 s.procs.members;
+      names = s.procs.names;
+      signals = s.procs.bonds.signals;
+      clock = s.procs.clock;
+      output = s.output;
+    }
 
 abbrev pub no_tables : Tables
 no_tables = record { processes = []; names = []; signals = []; clock = 0; output = [] }

@@ -2,14 +2,8 @@
 //! of all processes, and its steps. The definitions stand in specs/; here are the types that name them.
 #![tactic(auto)]
 
-mod act;
 mod code;
-mod rows;
 mod tables;
-#[cfg(test)]
-mod tests;
 
-pub use act::ActKind;
 pub use code::{Checked, Code};
-pub use rows::Rows;
 pub use tables::{MonitorRow, NameRow, ProcRow, SignalRow, Tables};

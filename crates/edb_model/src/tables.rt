@@ -1,7 +1,6 @@
 //! The tables of a run: what is left of its processes, names, signals, clock and output.
 
-use crate::Rows;
-use edb_lang::{Bytes, Name, Term};
+use edb_lang::{Bytes, Name, Rows, Term};
 
 /// A monitor: its reference, and the process that it watches.
 #[derive(Clone, Copy, PartialEq, Eq, Debug)]

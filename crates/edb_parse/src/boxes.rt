@@ -10,7 +10,8 @@ ghost use Rattle.edb_parse.specs.Gives.{Gives};
 
 use crate::cursor::Cursor;
 use crate::unread::Unread;
-use edb_syntax::{Expr, ExprNode, Operation, UnaryOp};
+use edb_lang::UnaryOp;
+use edb_syntax::{Expr, ExprNode, Operation};
 use std::alloc::{AllocError, Global};
 
 /// The expression of this line and node; refused only for want of memory.

@@ -18,8 +18,9 @@ use crate::keeping::{beside, both_fitting, close, fitting};
 use crate::lists::until;
 use crate::primaries::primary;
 use crate::unread::Unread;
+use edb_lang::UnaryOp;
 use edb_scan::{Mark, Token};
-use edb_syntax::{Expr, UnaryOp};
+use edb_syntax::Expr;
 use std::alloc::Global;
 
 /// The operator before its operand that this mark writes, where it writes one.

@@ -6,8 +6,6 @@ mod attributes;
 mod bodies;
 mod boxes;
 mod calls;
-#[cfg(test)]
-mod checks;
 mod choices;
 mod clauses;
 mod cursor;
@@ -21,8 +19,6 @@ mod handlers;
 mod keeping;
 mod lists;
 mod literals;
-#[cfg(test)]
-mod modules;
 mod operators;
 mod patterns;
 mod primaries;

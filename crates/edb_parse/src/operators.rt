@@ -9,8 +9,9 @@ ghost use Rattle.edb_parse.specs.Operating.{infix_from, left_at, right_at, Stops
 
 use crate::boxes::{boxed, two};
 use crate::cursor::Cursor;
+use edb_lang::BinaryOp;
 use edb_scan::{Mark, Token};
-use edb_syntax::{BinaryOp, Expr, ExprNode, Operation};
+use edb_syntax::{Expr, ExprNode, Operation};
 use std::alloc::{AllocError, Global};
 
 /// An operator between two operands, `=` apart.

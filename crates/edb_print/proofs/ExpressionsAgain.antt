@@ -69,7 +69,7 @@ opening guard_alone = with_guard
 opening (parameters n) = with_parameters
 opening (named f n) = with_name f
 
--- the class of a clause behind `catch`, and what follows it
+-- the class of a clause after `catch`, and what follows it
 class_then : {P : List Tok → Type 0} {t : Tok} {p : Pat} (g : Gap) {ps : List Piece} {ts : List Tok} → ReadsClass t p
     → ((v : Tok) (q : Pat) → ReadsClass v q → unlined_pattern q ≡ unlined_pattern p → Reread (λ us. P (v ∷ us)) ps ts)
     → Reread P (lay_pattern g p ++ ps) (t ∷ ts)
@@ -106,12 +106,12 @@ last_same : (k l : ℕ) (es fs : Exps) (t u : Exp) → unlined_all es ≡ unline
     → unlined (list_with_tail k es t) ≡ unlined (list_with_tail l fs u)
 last_same k l es fs t u h j = ap (apply 0 ListWithTail) (unlined_last es t ∙ (λ i. with_last (h i) (j i)) ∙ sym (unlined_last fs u))
 
--- where the level of what stands outermost is known otherwise
+-- if the level of what stands outermost is known otherwise
 leveled : {b k : ℕ} (e : Exp) {ps : List Piece} {ts : List Tok} → outer e ≡ k
     → Reread (Twin (Reads b k) unlined e) ps ts → Reread (Twin (Reads b (outer e)) unlined e) ps ts
 leveled {b} e {ps} {ts} h r = subst (λ k. Reread (Twin (Reads b k) unlined e) ps ts) (sym h) r
 
--- what stands behind the patterns of a clause
+-- what stands after the patterns of a clause
 abbrev ReadsBehind : ℕ → List Tok → Guards × Seq → Type 0
 ReadsBehind b us x = ReadsRest b us x.0 x.1
 

@@ -103,7 +103,7 @@ forms_sound (t ∷ ts) h = by (is_dot t.token) (forms_sound ts h.1)
     by true f = ((h.0, tt), f)
     by false f = with_first_sound t ts (forms_of ts) h f
 
--- the functions behind the other forms
+-- the functions after the other forms
 record FunctionsFound (fs : List FunctionTree) (n l : ℕ) : Type 0 where
   trees : List FunctionTree
   reads : ReadsForms n (forms_of (tokens_of l (lay_functions fs))) [] trees
@@ -202,7 +202,7 @@ export_again x xs w =
       same = e.same;
     }))))))))
 
--- the forms behind the module form
+-- the forms after the module form
 record FormsFound (xs : List Export) (fs : List FunctionTree) (l : ℕ) : Type 0 where
   entries : List Export
   trees : List FunctionTree

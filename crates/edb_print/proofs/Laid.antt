@@ -8,8 +8,8 @@ use Rattle.std.specs.Result.{OnOk}
 use Rattle.edb_scan.specs.declared.lexeme.Mark.{Mark}
 use Rattle.edb_scan.specs.declared.lexeme.Mark.TheVariants as mark
 use Rattle.edb_scan.specs.declared.lexeme.Token.TheVariants as token
-use Rattle.edb_syntax.specs.declared.operation.UnaryOp.{UnaryOp}
-use Rattle.edb_syntax.specs.declared.operation.BinaryOp.{BinaryOp}
+use Rattle.edb_lang.specs.declared.operators.UnaryOp.{UnaryOp}
+use Rattle.edb_lang.specs.declared.operators.BinaryOp.{BinaryOp}
 use Rattle.edb_syntax.specs.declared.operation.Operation.{Operation}
 use Rattle.edb_syntax.specs.declared.operation.Operation.TheVariants as operation
 use Rattle.edb_syntax.specs.Syntax.{Exp, Exps, Guards, ClauseTree, CatchTree, FunctionTree, apply, and_also, or_else, none, more, clause, exps_of, guards_of, clauses_of, catches_of}
@@ -29,7 +29,7 @@ send_laid g d l none = refl
 send_laid g d l (more a none) = refl
 send_laid g d l (more a (more b es)) = refl
 
--- a clause of a function is one of a fun behind the name
+-- a clause of a function is one of a fun after the name
 pub named_laid : (f : List ℕ) (g : Gap) (d : ℕ) (c : ClauseTree)
     → lay_clause (with_name f) g d c ≡ piece g (token.Atom f) ∷ lay_clause with_parameters tight d c
 named_laid f g d (clause ps gs s) = refl
@@ -72,7 +72,7 @@ two_up [] a b h e f = absurd (omega (arith, h))
 two_up (c ∷ []) a b h e f = absurd (omega (arith, h))
 two_up (c ∷ d ∷ es) a b h e f = ap (λ x. x ∷ d ∷ es) (sym e) ∙ ap (λ x. a ∷ x ∷ es) (sym f)
 
--- one item, and those that are left behind it
+-- one item, and those that are left after it
 pub item_left : (b : Bool) (g h : Gap) (d : ℕ) (e : Exp) (es : Exps)
     → all_left b g h d (more e es) ≡ lay_item b g h d e ++ all_left false g h d es
 item_left true g h d e es = refl
@@ -97,7 +97,7 @@ tail_item_left false false d e [] h = absurd (false≢true (sym h))
 tail_item_left false true d e (f ∷ es) h = absurd (some_left f es h)
 tail_item_left false false d e (f ∷ es) h = refl
 
--- what was put behind what was there, step by step
+-- what was put after what was there, step by step
 pub chain2 : (o a b s t w : List ℕ) → a ≡ o ++ s → b ≡ a ++ t → w ≡ s ++ t → b ≡ o ++ w
 chain2 o a b s t w e f g = f ∙ ap (λ x. x ++ t) e ∙ append_assoc o s t ∙ ap (λ x. o ++ x) (sym g)
 
@@ -204,7 +204,7 @@ pub or_text : (g : Gap) (d l : ℕ) (e a b : Exp) → e ≡ or_else l a b
     → bytes_of (lay g d e) ≡ bytes_of (grouped (is_operator a) (λ h. lay h d a) g) ++ bytes_of (lay_behind d mark.OrElse b)
 or_text g d l e a b h = ap (λ v. bytes_of (lay g d v)) h ∙ bytes_append (grouped (is_operator a) (λ h. lay h d a) g) (lay_behind d mark.OrElse b)
 
--- the item at a place, and those behind it
+-- the item at a place, and those after it
 drop_at : (es : List Exp) (i : ℕ) (x : Exp) → i < length es → x ≡ get_or es i x → drop i es ≡ x ∷ drop (i + 1) es
 drop_at [] i x h e = absurd (omega (arith, h))
 drop_at (a ∷ es) zero x h e = ap (λ v. v ∷ es) (sym e)
@@ -241,7 +241,7 @@ tail_step b d left i es x out new old inside at sum e was =
     ∙ ap bytes_of (tail_item_left b (eqb left 1) d x (drop (i + 1) es) last)
     ∙ bytes_append (lay_tail_item b (eqb left 1) d x) (tail_left false d (exps_of (drop (i + 1) es)))) was
 
--- the same where the last step may have been refused
+-- the same if the last step may have failed
 pub ends2 : {T E : Type 0} (r : Result T E) (o a b s t w : List ℕ) → a ≡ o ++ s → w ≡ s ++ t → OnOk r (b ≡ a ++ t) → OnOk r (b ≡ o ++ w)
 ends2 r o a b s t w e g h = on_ok_weaker {P = b ≡ a ++ t} {Q = b ≡ o ++ w} r (λ f. chain2 o a b s t w e f g) h
 

@@ -7,10 +7,10 @@ use Rattle.edb_scan.specs.declared.lexeme.Mark.TheVariants as mark
 use Rattle.edb_scan.specs.declared.lexeme.Token.{Token}
 use Rattle.edb_scan.specs.declared.lexeme.Token.TheVariants as token
 use Rattle.edb_scan.specs.declared.lexeme.Token.TheVariants.{Int, Float, Char, Atom, Var, Str, Dot}
-use Rattle.edb_syntax.specs.declared.operation.UnaryOp.{UnaryOp}
-use Rattle.edb_syntax.specs.declared.operation.UnaryOp.TheVariants as unary
-use Rattle.edb_syntax.specs.declared.operation.BinaryOp.{BinaryOp}
-use Rattle.edb_syntax.specs.declared.operation.BinaryOp.TheVariants as binary
+use Rattle.edb_lang.specs.declared.operators.UnaryOp.{UnaryOp}
+use Rattle.edb_lang.specs.declared.operators.UnaryOp.TheVariants as unary
+use Rattle.edb_lang.specs.declared.operators.BinaryOp.{BinaryOp}
+use Rattle.edb_lang.specs.declared.operators.BinaryOp.TheVariants as binary
 use Rattle.edb_syntax.specs.declared.operation.Operation.{Operation}
 use Rattle.edb_syntax.specs.declared.operation.Operation.TheVariants.{ListWithTail, Unary, Binary, Send, LocalCall, RemoteCall, FunCall}
 use Rattle.edb_syntax.specs.declared.operation.Operation.TheVariants as operation
@@ -24,11 +24,11 @@ use Rattle.edb_print.specs.Layout.{lay_integer, lay_pattern, lay_patterns, lay_m
 use Rattle.edb_print.specs.Parts.{lay_behind, lay_arguments, lay_block}
 use Rattle.edb_print.proofs.Touching.{is_laid, is_free, is_behind, is_last, is_first, is_minus, is_bracket, joins, touches, Behind}
 
--- Each token of a kind may stand behind t after the gap g.
+-- Each token of a kind may follow t after the gap g.
 record Takes (kind : Token → Bool) (t : Token) (g : Gap) : Type 0 where
   takes : g ≡ tight → (u : Token) → kind u ≡ true → touches t u ≡ true
 
--- These pieces may stand behind t, and behind them whatever may stand behind each token of a kind: they end with one.
+-- These pieces may follow t, and whatever may follow each token of a kind may follow them: they end with one.
 record Fits (kind : Token → Bool) (t : Token) (ps : List Piece) : Type 0 where
   fits : (rest : List Piece) → ((u : Token) → kind u ≡ true → Behind u rest) → Behind t (ps ++ rest)
 
@@ -36,7 +36,7 @@ record Fits (kind : Token → Bool) (t : Token) (ps : List Piece) : Type 0 where
 abbrev no_dot : Token → Bool
 no_dot t = not (is_dot t)
 
--- any token that may stand behind a bracket
+-- any token that may stand after a bracket
 abbrev any_first : Token → Bool
 any_first u = not (is_behind u)
 
@@ -122,7 +122,7 @@ as_begun : {t : Token} {g : Gap} (b : Bool) → Takes any_first t g → Takes (b
 as_begun true k = k
 as_begun false k = as_operand k
 
--- behind `:` a pattern may stand, and an operand as behind `-` and `+`
+-- after `:` a pattern may stand, and an operand as after `-` and `+`
 colon_takes : Takes pattern_first (token.Mark mark.Colon) tight
 colon_takes = record { takes = λ e u h. joined_touches (token.Mark mark.Colon) u h }
 
@@ -142,7 +142,7 @@ prefix_takes unary.Minus = joint_takes (token.Mark mark.Minus) refl (λ u h. h)
 prefix_takes unary.BitNot = blank_takes
 prefix_takes unary.Not = blank_takes
 
--- nothing, and pieces one behind the other
+-- nothing, and pieces one after the other
 close : {kind : Token → Bool} {t : Token} → kind t ≡ true → Fits kind t []
 close {t = t} h = record { fits = λ rest k. k t h }
 
@@ -155,8 +155,8 @@ join {t = t} {ps = ps} {qs = qs} a b = record {
 eased : {t : Token} {ps : List Piece} → Fits is_last t ps → Fits no_dot t ps
 eased a = record { fits = λ rest k. a.fits rest (λ u h. k u (calm u h)) }
 
--- a piece before others: one that begins what may stand behind t; one behind a space or on a line of its own; one that
--- may stand behind any token but a dot; one that may stand behind the end of an expression; one that is known to touch t
+-- a piece before others: one that begins what may stand after t; one after a space or on a line of its own; one that
+-- may stand after any token but a dot; one that may stand after the end of an expression; one that is known to touch t
 first : {kind goal : Token → Bool} {t u : Token} {g : Gap} {ps : List Piece} → Takes kind t g → is_laid u ≡ true → kind u ≡ true
     → Fits goal u ps → Fits goal t (piece g u ∷ ps)
 first {u = u} k l h f = record { fits = λ rest r. (l, λ e. k.takes e u h, f.fits rest r) }
@@ -225,7 +225,7 @@ infix_laid : (o : BinaryOp) → is_laid (token.Mark (infix_mark o)) ≡ true
 infix_laid binary.Divide = refl
 infix_laid _ = refl
 
--- an expression may stand where a token may with which it begins
+-- an expression may stand at a place at which the token may with which it begins
 abbrev LayFits : Exp → Type 0
 LayFits e = (d : ℕ) (g : Gap) (t : Token) → Takes (begins (is_operator e)) t g → Fits is_last t (lay g d e)
 
@@ -324,7 +324,7 @@ when_fits : (gs : Guards) → EachGuardFits gs → (d : ℕ) (t : Token) → no_
 when_fits no_guard f d t c = close c
 when_fits (alternative es gs) f d t c = spaced refl (guard_fits (alternative es gs) f blank d (token.Mark mark.When) refl blank_takes)
 
--- a body, and what stands behind the patterns of a clause
+-- a body, and what stands after the patterns of a clause
 abbrev BodyFits : Seq → Type 0
 BodyFits s = (d : ℕ) (t : Token) → Fits is_last t (lay_body d s)
 
@@ -347,7 +347,7 @@ heads _ = any_first
 fun_takes : Takes is_paren (token.Mark mark.Fun) tight
 fun_takes = record { takes = λ e u h. free_touches (token.Mark mark.Fun) u (paren_free u h) refl }
 
--- patterns in parentheses, and what stands behind them
+-- patterns in parentheses, and what stands after them
 parameters_fit : (ps : Pats) (gs : Guards) (s : Seq) → EachGuardFits gs → BodyFits s → (g : Gap) (d : ℕ) (t : Token)
     → Takes is_paren t g → Fits is_last t (lay_clause with_parameters g d (clause ps gs s))
 parameters_fit ps gs s f b g d t k =
@@ -472,7 +472,7 @@ mutual
   more_qualifiers_fit (more_qualifiers q qs) d t h =
       freely refl refl (calm t h) (join (qualifier_fits q d (token.Mark mark.Comma)) (more_qualifiers_fit qs d))
 
--- forms: each but the first begins on a line of its own, so it may stand behind any token
+-- forms: each but the first begins on a line of its own, so it may stand after any token
 abbrev any : Token → Bool
 any t = true
 
@@ -503,8 +503,8 @@ module_line_fits : (m : List ℕ) → Fits any (token.Mark mark.ParenOpen) (lay_
 module_line_fits m =
     touching refl refl (touching refl refl (touching refl refl (touching refl refl (touching refl refl (touching refl refl (close refl))))))
 
--- Each piece of a module is one of the layout, and may stand behind the one before it. The first one has none before
--- it; it may stand behind `(`, and so behind nothing.
+-- Each piece of a module is one of the layout, and may stand after the one before it. The first one has none before
+-- it; it may stand after `(`, and so after nothing.
 pub module_stands : (m : ModuleTree) → Behind (token.Mark mark.ParenOpen) (lay_module m)
 module_stands m =
     (module_line_fits m.name).fits (lay_exports m.exports ++ lay_functions m.functions) (λ u h.

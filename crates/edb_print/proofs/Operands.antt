@@ -57,7 +57,7 @@ between_same andalso k l a b c e h j = λ i. and_also 0 (h i) (j i)
 between_same orelse k l a b c e h j = λ i. or_else 0 (h i) (j i)
 between_same sends k l a b c e h j = λ i. send 0 (h i) (j i)
 
--- an operator between operands, where its own mark stands for it
+-- an operator between operands, if its own mark stands for it
 pub infix_between : {b : ℕ} {a c : Exp} {ps qs : List Piece} {ts us : List Tok} (x y : Mark) (o : Infix) (s : Place) (l : ℕ)
     → infix_of x ≡ Some o → infix_of y ≡ Some o → Reread (Operand b a) ps ts → Reread (Operand b c) qs us
     → Reread (Twin (Reads b (level o)) unlined (between l o a c)) (ps ++ sign blank y ∷ qs) (ts ++ word s x ∷ us)

@@ -5,10 +5,10 @@ use Rattle.std.proofs.lemmas.Bool.{false≢true}
 use Rattle.edb_scan.specs.declared.lexeme.Mark.{Mark}
 use Rattle.edb_scan.specs.declared.lexeme.Mark.TheVariants as mark
 use Rattle.edb_scan.specs.declared.lexeme.Token.TheVariants as token
-use Rattle.edb_syntax.specs.declared.operation.UnaryOp.{UnaryOp}
-use Rattle.edb_syntax.specs.declared.operation.UnaryOp.TheVariants as unary
-use Rattle.edb_syntax.specs.declared.operation.BinaryOp.{BinaryOp}
-use Rattle.edb_syntax.specs.declared.operation.BinaryOp.TheVariants as op
+use Rattle.edb_lang.specs.declared.operators.UnaryOp.{UnaryOp}
+use Rattle.edb_lang.specs.declared.operators.UnaryOp.TheVariants as unary
+use Rattle.edb_lang.specs.declared.operators.BinaryOp.{BinaryOp}
+use Rattle.edb_lang.specs.declared.operators.BinaryOp.TheVariants as op
 use Rattle.edb_syntax.specs.declared.operation.Operation.TheVariants.{Unary, Binary, Send, LocalCall, RemoteCall, FunCall}
 use Rattle.edb_syntax.specs.Forms.{list_with_tail, with_last, call}
 use Rattle.edb_syntax.specs.Depths.{depth, depths}

@@ -19,7 +19,7 @@ abbrev pub Counts : ℕ → List Tok → Type 0
 Counts n [] = Unit {0}
 Counts n (tok s t ∷ ts) = (s.funs ≡ n) × Sound t × Counts (funs_with n t) ts
 
--- how many `fun`s stand before what comes behind these tokens, or pieces
+-- how many `fun`s stand before what comes after these tokens, or pieces
 abbrev pub funs_past : ℕ → List Tok → ℕ
 funs_past n [] = n
 funs_past n (tok s t ∷ ts) = funs_past (funs_with n t) ts
@@ -43,7 +43,7 @@ abbrev pub SoundPieces : List Piece → Type 0
 SoundPieces [] = Unit {0}
 SoundPieces (p ∷ ps) = Sound p.token × SoundPieces ps
 
--- the tokens of pieces at their places, where so many `fun`s stand before them, and what stands before them ends on
+-- the tokens of pieces at their places, if so many `fun`s stand before them, and what stands before them ends on
 -- line l
 abbrev pub put : ℕ → ℕ → List Piece → List Tok
 put n l ps = places n (tokens_of l ps)
@@ -85,7 +85,7 @@ pub record Found (P : List Tok → Type 0) (ps : List Piece) (ts : List Tok) (n 
   pub calm : Undotted ps
   pub sound : SoundPieces ps
 
--- the same at each place, where the tokens for which they stand count their `fun`s
+-- the same at each place, if the tokens for which they stand count their `fun`s
 pub record Reread (P : List Tok → Type 0) (ps : List Piece) (ts : List Tok) : Type 0 where
   pub at_each : (n l : ℕ) → Counts n ts → Found P ps ts n l
 
@@ -135,7 +135,7 @@ added {g} {t} {ts} calm e fits k = record {
       };
 }
 
--- tokens for which no pieces stand: before the others, and behind them
+-- tokens for which no pieces stand: before the others, and after them
 pub left_out : {P : List Tok → Type 0} {s : Place} {u : Token} {ps : List Piece} {ts : List Tok}
     → ((n : ℕ) → funs_with n u ≡ n) → Reread P ps ts → Reread P ps (tok s u ∷ ts)
 left_out {u} {ts} e r = record {
@@ -153,7 +153,7 @@ character {g} {c = c} f = record {
       record { holds = f small (record { line = line_behind l g; funs = n }); funs = refl; calm = (refl, tt); sound = (small, tt) };
 }
 
--- one part behind another
+-- one part after another
 pub join : {A P : List Tok → Type 0} {ps qs : List Piece} {ts us : List Tok}
     → Reread A ps ts → ((vs : List Tok) → A vs → Reread (λ ws. P (vs ++ ws)) qs us) → Reread P (ps ++ qs) (ts ++ us)
 join {P} {ps} {qs} {ts} {us} r k = record {

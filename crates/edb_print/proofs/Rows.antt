@@ -5,8 +5,8 @@ use Rattle.std.proofs.Math.Utf8.{encode}
 use Rattle.std.specs.Fmt.{digits}
 use Rattle.std.specs.List.{flat_map}
 use Rattle.edb_scan.specs.declared.lexeme.Token.TheVariants.{Str}
-use Rattle.edb_syntax.specs.declared.operation.UnaryOp.TheVariants as unary_op
-use Rattle.edb_syntax.specs.declared.operation.BinaryOp.TheVariants as op
+use Rattle.edb_lang.specs.declared.operators.UnaryOp.TheVariants as unary_op
+use Rattle.edb_lang.specs.declared.operators.BinaryOp.TheVariants as op
 use Rattle.edb_syntax.specs.Forms.{tuple, list, list_with_tail, unary, binary, send, remote_call, call}
 use Rattle.edb_syntax.specs.Patterns as pattern
 use Rattle.edb_syntax.specs.Patterns.{Pat, pats_of}
@@ -144,7 +144,7 @@ fun_text : print (match 1 (pv (codes "F")) (fun_clauses 1 0 (clauses_of
 unfolding digits
 fun_text = refl
 
--- what stands behind an `end` on its line goes on from that line's depth
+-- what stands after an `end` on its line goes on from that line's depth
 behind_end_text : print (call 1 (a (codes "f")) (exps_of
     (begin 1 (body (n 1)) ∷ begin 1 (sequence (n 2) (more (float 1) none)) ∷ fun_local 1 0 (codes "f") 2 ∷ fun_remote 1 (codes "m") (codes "End") 0 ∷ [])))
     ≡ lines (codes "f(begin" ∷ codes "    1" ∷ codes "end, begin" ∷ codes "    2," ∷ codes "    0.0" ∷ codes "end, fun f/2, fun m:'End'/0)" ∷ [])

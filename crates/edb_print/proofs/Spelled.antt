@@ -21,7 +21,7 @@ use Rattle.edb_scan.specs.Lexis.{Begins, Fits, MayStand, is_string, stays_in_lin
 use Rattle.edb_scan.specs.Parting.{Parted, at_end, next_piece, placed, line_after, longest_file, AreTokens}
 use Rattle.edb_scan.proofs.NumeralLemmas.{is_ten}
 use Rattle.edb_scan.proofs.TopLemmas.{space_found}
-use Rattle.edb_print.specs.MarkText.{mark_text}
+use Rattle.edb_scan.specs.MarkText.{mark_text}
 use Rattle.edb_print.specs.Pieces.{Gap, tight, blank, line, Piece, spelling, shown, gap_text, bytes_of, line_behind, tokens_of}
 use Rattle.edb_print.proofs.SoundTokens.{Sound}
 use Rattle.edb_print.proofs.Reread.{SoundPieces}
@@ -39,7 +39,7 @@ atom_spelled name rest text short ends = at (is_bare name) refl
     at true h = rw h (bare_spelled name rest h short ends)
     at false h = rw h (quoted_atom_spelled name rest text short)
 
--- a token's spelling is read as the token, where what follows may stand behind it
+-- a token's spelling is read as the token, if what follows may stand after it
 spelled : (t : Token) (rest : List ℕ) → Sound t → is_laid t ≡ true → Follows t rest → Begins (spelling t ++ rest) rest (Some t) × Fits (Some t)
 spelled (Int n) rest s l f = int_spelled n rest s (ends_word (Int n) rest (λ u. refl) f)
 spelled Float rest s l f = float_spelled rest (ends_word Float rest (λ u. refl) f)
@@ -119,7 +119,7 @@ spaces (suc n) front rest ts go =
     one_piece front false (32 ∷ []) (replicate n 32 ++ rest) None ts ts (blank_begins (replicate n 32 ++ rest)) (tt, λ e. refl) refl
     (spaces n (front ++ 32 ∷ []) rest ts (λ next e. go next (e ∙ same_line front (32 ∷ []) refl)))
 
--- A gap's bytes are white space: what comes after them is behind a string only where there are none.
+-- A gap's bytes are white space: what comes after them follows a string only if there are none.
 gap_parted : (g : Gap) (front : List ℕ) (behind_string : Bool) (rest : List ℕ) (ts : List Placed)
     → ((next : List ℕ) (string : Bool) → line_after next ≡ line_behind (line_after front) g → (string ≡ true → (g ≡ tight) × (behind_string ≡ true)) → Parted next string rest ts None)
     → Parted front behind_string (gap_text g ++ rest) ts None
@@ -130,13 +130,13 @@ gap_parted (line d) front behind_string rest ts go =
     one_piece front behind_string (10 ∷ []) (replicate d 32 ++ rest) None ts ts (line_begins (replicate d 32 ++ rest)) (tt, λ e. refl) refl
     (spaces d (front ++ 10 ∷ []) rest ts (λ next e. go next false (e ∙ next_line front) (λ f. absurd (false≢true f))))
 
--- no string stands directly behind a string
+-- no string stands directly after a string
 apart : (t u : Token) → touches t u ≡ true → is_string (Some t) ≡ true → is_string (Some u) ≡ false
 apart (Str cs) (Str ds) h s = absurd (false≢true h)
 apart (Str cs) _ h s = refl
 apart _ u h s = absurd (false≢true s)
 
--- a token behind a gap, and the pieces behind it
+-- a token after a gap, and the pieces after it
 tokens_here : (u : Token) (ps : List Piece) (l m n : ℕ) → m ≡ l → n ≡ m
     → ◌≡◌ {A = List Placed} (record { line = l; token = u } ∷ tokens_of l ps) (record { line = m; token = u } ∷ tokens_of n ps)
 tokens_here u ps l m n e f =
@@ -144,7 +144,7 @@ tokens_here u ps l m n e f =
     let others : ℕ → List Placed = λ k. record { line = m; token = u } ∷ tokens_of k ps in
     ap both (sym e) ∙ ap others (sym f)
 
--- pieces behind the token t, and the last line's end
+-- pieces after the token t, and the last line's end
 parts : (front : List ℕ) (t : Token) (ps : List Piece) → SoundPieces ps → Behind t ps
     → Parted front (is_string (Some t)) (bytes_of ps ++ 10 ∷ []) (tokens_of (line_after front) ps) None
 parts front t [] s b = one_piece front (is_string (Some t)) (10 ∷ []) [] None [] [] (line_begins []) (tt, λ e. refl) refl (at_end (front ++ 10 ∷ []) false)

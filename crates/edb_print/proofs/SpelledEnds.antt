@@ -1,4 +1,4 @@
--- What stands behind a token of the layout, by its first bytes.
+-- What stands after a token of the layout, by its first bytes.
 
 use Rattle.std.proofs.Common.{◌≡◌, ◌≢◌, ℕ, Bool, true, false, not, ◌&&◌, ◌||◌, ◌==◌, List, [], ◌∷◌, ◌++◌, refl, sym, ◌∙◌, subst, ⊎_elim, arith, append_assoc}
 use Rattle.std.proofs.lemmas.Bool.{and_parts, or_cases, or_left, or_right, both_ways, not-true, true≢false, false≢true}
@@ -27,7 +27,7 @@ leads_on p (c ∷ cs) more h = h
 abbrev pub is_blank : ℕ → Bool
 is_blank c = c == 32 || c == 10
 
--- with what the tokens begin that stand directly behind each token but a dot
+-- with what the tokens begin that stand directly after each token but a dot
 abbrev pub is_closing : ℕ → Bool
 is_closing c = c == 40 || (c == 41 || (c == 93 || (c == 125 || (c == 44 || c == 59))))
 
@@ -36,8 +36,8 @@ abbrev pub EndsWord : List ℕ → Type 0
 EndsWord [] = ⊥
 EndsWord (c ∷ cs) = (is_name_char c ≡ false) × (c ≢ 35) × (c ≡ 46 → Leads is_blank cs)
 
--- What stands behind the token t: white space; one of the tokens that may stand behind each token; behind the end of an
--- expression or a pattern, what ends a word; behind a bracket, anything; or what t joins.
+-- What stands after the token t: white space; one of the tokens that may stand after each token; after the end of an
+-- expression or a pattern, what ends a word; after a bracket, anything; or what t joins.
 pub data Follows (t : Token) (rest : List ℕ) : Type 0 where
   left : Leads is_blank rest → Follows t rest
   closed : is_dot t ≡ false → Leads is_closing rest → Follows t rest
@@ -53,7 +53,7 @@ closing_ends : (rest : List ℕ) → Leads is_closing rest → EndsWord rest
 closing_ends [] h = absurd h
 closing_ends (c ∷ cs) h = (grind (arith, nat_tests), λ e. grind (arith, nat_tests), λ e. absurd (grind (arith, nat_tests)))
 
--- behind a token that is no bracket and joins nothing
+-- after a token that is no bracket and joins nothing
 pub ends_word : (t : Token) (rest : List ℕ) → ((u : Token) → (is_bracket t || joins t u) ≡ false) → Follows t rest → EndsWord rest
 ends_word t rest calm (left h) = blank_ends rest h
 ends_word t rest calm (closed n h) = closing_ends rest h
@@ -107,7 +107,7 @@ pub first_piece : (p : Piece) (ps : List Piece) → bytes_of (p ∷ ps) ++ 10 �
 first_piece p ps =
     append_assoc (gap_text p.gap ++ spelling p.token) (bytes_of ps) (10 ∷ []) ∙ append_assoc (gap_text p.gap) (spelling p.token) (bytes_of ps ++ 10 ∷ [])
 
--- what follows the token t, where pieces stand behind it and the last line's end behind them
+-- what follows the token t, if pieces stand after it and the last line's end after them
 pub follows : (t : Token) (ps : List Piece) → SoundPieces ps → Behind t ps → Follows t (bytes_of ps ++ 10 ∷ [])
 follows t [] s b = left refl
 follows t (p ∷ ps) s b =

@@ -1,4 +1,4 @@
--- Marks and reserved words: what `mark_text` spells is read as the mark, where no longer one begins with it.
+-- Marks and reserved words: what `mark_text` spells is read as the mark, if no longer one begins with it.
 
 use Rattle.std.proofs.Common.{◌≡◌, ◌≢◌, ◌⊎◌, ℕ, ◌≤◌, Bool, true, false, not, ◌&&◌, ◌||◌, ◌==◌, List, [], ◌∷◌, ◌++◌, length, Option, Some, None, if◌then◌else◌, refl, ap, ◌∙◌, subst, inl, inr, ⊎_elim, arith, eq-eqb, eqb-true}
 use Rattle.std.specs.Prelude.{bytes_eq}
@@ -17,14 +17,14 @@ use Rattle.edb_scan.specs.Lexis.{Begins, Fits, ends_form}
 use Rattle.edb_scan.specs.Spellings.{Lists, mark_rows, word_rows, IsMark, IsWord}
 use Rattle.edb_scan.proofs.Rows.{lists_pass, one_mark_of, mark_class, mark_some}
 use Rattle.edb_scan.proofs.MarkLemmas.{mark_found, dot_found}
-use Rattle.edb_print.specs.MarkText.{mark_text}
+use Rattle.edb_scan.specs.MarkText.{mark_text}
 
 -- the mark of the first row with this text
 abbrev mark_of : List (List ℕ × Mark) → List ℕ → Option Mark
 mark_of [] text = None
 mark_of (row ∷ rows) text = if bytes_eq row.0 text then Some row.1 else mark_of rows text
 
--- `mark_text` is the table read from right to left
+-- the first row with the text of a mark is that mark's
 spelled_back : (m : Mark) → mark_of (word_rows ++ mark_rows) (mark_text m) ≡ Some m
 spelled_back mark.Ellipsis = refl
 spelled_back _ = refl
@@ -65,7 +65,7 @@ pub whole_by_test : (text : List ℕ) (c : ℕ) → is_whole text c ≡ true →
 whole_by_test text c h other n row starting =
     both_ways (starts (text ++ c ∷ []) other) (not-true (starts (text ++ c ∷ []) other) (lists_pass (λ t. not (starts (text ++ c ∷ []) t)) mark_rows other n h row)) starting
 
--- a byte that a mark has behind its first one
+-- a byte that a mark has after its first one
 abbrev pub is_joint : ℕ → Bool
 is_joint c = c == 43 || (c == 45 || (c == 46 || (c == 47 || (c == 58 || (c == 60 || (c == 61 || (c == 62 || c == 124)))))))
 
@@ -97,7 +97,7 @@ abbrev pub EndsSign : List ℕ → List ℕ → Type 0
 EndsSign text [] = Unit {0}
 EndsSign text (c ∷ cs) = Whole text c
 
--- a text that begins with this one and the byte behind it
+-- a text that begins with this one and the byte after it
 abbrev Outgrows : List ℕ → List ℕ → List ℕ → Type 0
 Outgrows other text [] = ⊥
 Outgrows other text (c ∷ cs) = starts (text ++ c ∷ []) other ≡ true
@@ -133,7 +133,7 @@ heads_other : (text rest : List ℕ) (m : Mark) → IsMark text m → Heads Othe
 heads_other [] rest m is = absurd (mark_some m is)
 heads_other (c ∷ text) rest m is = mark_class c text m is
 
--- a mark begins a text where it is its longest, and no `.`
+-- a mark begins a text if it is its longest, and no `.`
 pub sign_spelled : (text rest : List ℕ) (m : Mark) → IsMark text m → text ≢ 46 ∷ [] → EndsSign text rest
     → Begins (text ++ rest) rest (Some (token.Mark m)) × Fits (Some (token.Mark m))
 sign_spelled text rest m is no_point ends =

@@ -1,6 +1,6 @@
 -- Reserved words, variables and bare atoms: their spellings are read again.
 
-use Rattle.std.proofs.Common.{◌≡◌, ℕ, ◌≤◌, Bool, true, false, not, ◌&&◌, List, [], ◌∷◌, ◌++◌, length, Some, refl, ap, arith}
+use Rattle.std.proofs.Common.{◌≡◌, ℕ, ◌≤◌, Bool, true, false, not, ◌&&◌, List, [], ◌∷◌, ◌++◌, map, length, Some, refl, ap, arith}
 use Rattle.std.specs.Prelude.{chars}
 use Rattle.std.specs.Char.{is_ascii_lowercase}
 use Rattle.std.specs.List.{list_all, list_any}
@@ -16,7 +16,8 @@ use Rattle.edb_scan.specs.FirstByte.{class_of, Heads}
 use Rattle.edb_scan.specs.Fronts.{SplitsRun, Stops}
 use Rattle.edb_scan.specs.Letters.{is_lower, is_upper, is_name_char}
 use Rattle.edb_scan.specs.Lexis.{Begins, Fits, IsName}
-use Rattle.edb_scan.specs.Spellings.{word_rows, IsWord}
+use Rattle.edb_scan.specs.MarkText.{mark_text}
+use Rattle.edb_scan.specs.Spellings.{words, word_rows, IsWord}
 use Rattle.edb_scan.proofs.Rows.{lists_pass, word_name}
 use Rattle.edb_scan.proofs.NameLemmas.{name_ascii, word_found, atom_found, variable_found}
 use Rattle.edb_print.proofs.SpelledEnds.{EndsWord}
@@ -68,6 +69,9 @@ word_spelled text rest m word ends =
     let name = word_name text m word in word_found (text ++ rest) text rest m (heads_lower text rest name) (whole_run text rest (lower_name text name) ends) word
 
 -- the words that are no atoms are those that the scanner knows
+same_words : map mark_text words ≡ reserved_words
+same_words = refl
+
 abbrev is_reserved : List ℕ → Bool
 is_reserved text = list_any (same_name text) reserved_words
 

@@ -28,7 +28,7 @@ pub record Numeral (n : ℕ) (text : List ℕ) : Type 0 where
   pub alone : list_all is_ten text ≡ true
   pub leads : Leads is_ten text
 
--- digits write what those behind them make of the number that those before them write
+-- digits write what those after them make of the number that those before them write
 number_append : (base n : ℕ) (text more : List ℕ) → number_after base n (text ++ more) ≡ number_after base (number_after base n text) more
 number_append base n [] more = refl
 number_append base n (c ∷ cs) more = at (c == 95) refl (number_append base n cs more) (number_append base (n * base + digit_value c) cs more)

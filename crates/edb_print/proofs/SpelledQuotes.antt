@@ -47,7 +47,7 @@ high_encoded c (of4 a b d x least most f g h sum e) large = rw e (grind (arith, 
 by_size : (c : ℕ) → (c < 128) ⊎ (128 ≤ c)
 by_size c = grind arith
 
--- A byte between quotes q: the quote or a backslash behind a backslash; a letter behind one; two digits; or itself.
+-- A byte between quotes q: the quote or a backslash after a backslash; a letter after one; two digits; or itself.
 by_form : (P : List ℕ → Type 0) (q c : ℕ)
     → ((c ≡ q) ⊎ (c ≡ 92) → P (92 ∷ c ∷ []))
     → ((l : ℕ) → letter_of c ≡ Some l → P (92 ∷ l ∷ []))

@@ -1,4 +1,4 @@
--- Marks between what may stand behind them: none is longer.
+-- Marks between what may stand after them: none is longer.
 
 use Rattle.std.proofs.Common.{◌≡◌, ℕ, Bool, true, false, not, ◌&&◌, ◌||◌, List, [], ◌∷◌, ◌++◌, Some, refl, sym, ap, ◌∙◌, subst, ⊎_elim, arith, decimal}
 use Rattle.std.proofs.lemmas.Bool.{or_cases, or_left, or_right, not-true, true≢false, false≢true}
@@ -14,7 +14,7 @@ use Rattle.edb_scan.specs.Lexis.{Begins, Fits, IsName, ends_form}
 use Rattle.edb_scan.specs.Spellings.{IsMark, IsWord}
 use Rattle.edb_scan.proofs.NumeralLemmas.{is_ten}
 use Rattle.edb_scan.proofs.Rows.{mark_some, word_name}
-use Rattle.edb_print.specs.MarkText.{mark_text}
+use Rattle.edb_scan.specs.MarkText.{mark_text}
 use Rattle.edb_print.specs.Pieces.{spelling}
 use Rattle.edb_print.proofs.SoundTokens.{Sound}
 use Rattle.edb_print.proofs.Touching.{is_laid, is_first, is_minus, is_last, is_bracket, joins}
@@ -23,7 +23,7 @@ use Rattle.edb_print.proofs.SpelledEnds.{Leads, leads_on, is_blank, is_closing, 
 use Rattle.edb_print.proofs.SpelledNumbers.{numeral}
 use Rattle.edb_print.proofs.SpelledNames.{bare_name, word_spelled}
 
--- a byte that no mark has behind its first one
+-- a byte that no mark has after its first one
 abbrev is_apart : ℕ → Bool
 is_apart c = not (is_joint c)
 

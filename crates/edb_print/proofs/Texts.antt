@@ -1,4 +1,4 @@
--- The text of pieces one behind the other.
+-- The text of pieces one after the other.
 
 use Rattle.std.proofs.Common.{◌≡◌, List, ◌++◌}
 use Rattle.std.proofs.lemmas.Grind.{flat_map-append}

@@ -14,7 +14,7 @@ is_laid (Char c) = false
 is_laid (token.Mark mark.Point) = false
 is_laid _ = true
 
--- what may stand directly behind each token but a dot
+-- what may stand directly after each token but a dot
 abbrev pub is_free : Token → Bool
 is_free (token.Mark mark.ParenOpen) = true
 is_free (token.Mark mark.ParenClose) = true
@@ -24,7 +24,7 @@ is_free (token.Mark mark.Comma) = true
 is_free (token.Mark mark.Semicolon) = true
 is_free _ = false
 
--- what stands directly behind the end of an expression or a pattern only
+-- what stands directly after the end of an expression or a pattern only
 abbrev pub is_behind : Token → Bool
 is_behind (token.Mark mark.Colon) = true
 is_behind (token.Mark mark.Slash) = true
@@ -65,14 +65,14 @@ abbrev pub is_minus : Token → Bool
 is_minus (token.Mark mark.Minus) = true
 is_minus _ = false
 
--- behind which each token but those of `is_behind` may stand
+-- after which each token but those of `is_behind` may stand
 abbrev pub is_bracket : Token → Bool
 is_bracket (token.Mark mark.ParenOpen) = true
 is_bracket (token.Mark mark.BracketOpen) = true
 is_bracket (token.Mark mark.BraceOpen) = true
 is_bracket _ = false
 
--- behind which what an operand begins with may stand
+-- after which what an operand begins with may stand
 abbrev pub joins : Token → Token → Bool
 joins (token.Mark mark.Minus) u = is_first u
 joins (token.Mark mark.Plus) u = is_first u
@@ -80,7 +80,7 @@ joins (token.Mark mark.Slash) u = is_first u
 joins (token.Mark mark.Colon) u = is_first u || is_minus u
 joins _ u = false
 
--- whether the second token may stand directly behind the first
+-- whether the second token may stand directly after the first
 abbrev pub touches : Token → Token → Bool
 touches t u =
     (is_free u && not (is_dot t)) || ((is_behind u && is_last t) || ((is_bracket t && not (is_behind u)) || joins t u))
@@ -89,7 +89,7 @@ touches t u =
 abbrev pub Stands : Token → Piece → Type 0
 Stands t p = p.gap ≡ tight → touches t p.token ≡ true
 
--- each piece is one of the layout, and may stand where it stands behind the one before it, the first one behind the
+-- each piece is one of the layout, and may stand where it is, after the one before it, the first one after the
 -- token t
 abbrev pub Behind : Token → List Piece → Type 0
 Behind t [] = Unit {0}

@@ -1,15 +1,15 @@
 -- The layout of modules: the pieces of which the text of a module consists. In all of these, g is the gap before the
--- first piece, and d says how many spaces deep the line is on which the first piece stands. What is laid out on
+-- first piece, and d says how many spaces deep the line is on which the first piece is. What is laid out on
 -- several lines ends on a line as deep as the one on which it begins, so what follows is d deep too.
 
 use Rattle.std.specs.Prelude.{ℕ, ℤ, pos, negsuc, suc, ◌+◌, Bool, true, false, ◌||◌, List, [], ◌∷◌, ◌++◌, Option, None, Some, codes}
 use Rattle.edb_scan.specs.declared.lexeme.Mark.{Mark}
 use Rattle.edb_scan.specs.declared.lexeme.Mark.TheVariants as mark
 use Rattle.edb_scan.specs.declared.lexeme.Token.TheVariants.{Int, Float, Atom, Var, Str, Dot}
-use Rattle.edb_syntax.specs.declared.operation.UnaryOp.{UnaryOp}
-use Rattle.edb_syntax.specs.declared.operation.UnaryOp.TheVariants as unary
-use Rattle.edb_syntax.specs.declared.operation.BinaryOp.{BinaryOp}
-use Rattle.edb_syntax.specs.declared.operation.BinaryOp.TheVariants as binary
+use Rattle.edb_lang.specs.declared.operators.UnaryOp.{UnaryOp}
+use Rattle.edb_lang.specs.declared.operators.UnaryOp.TheVariants as unary
+use Rattle.edb_lang.specs.declared.operators.BinaryOp.{BinaryOp}
+use Rattle.edb_lang.specs.declared.operators.BinaryOp.TheVariants as binary
 use Rattle.edb_syntax.specs.declared.operation.Operation.TheVariants.{Tuple, ListWithTail, Unary, Binary, Send, LocalCall, RemoteCall, FunCall}
 use Rattle.edb_syntax.specs.declared.operation.Operation.TheVariants as operation
 use Rattle.edb_syntax.specs.declared.modules.Export.{Export}
@@ -47,7 +47,7 @@ abbrev mutual
   lay_more_patterns pattern.none = []
   lay_more_patterns (pattern.more p ps) = sign tight mark.Comma ∷ (lay_pattern blank p ++ lay_more_patterns ps)
 
--- an operator before its operand: a word has a space behind it, `-` and `+` have none
+-- an operator before its operand: a word has a space after it, `-` and `+` have none
 abbrev pub prefix_mark : UnaryOp → Mark
 prefix_mark unary.Plus = mark.Plus
 prefix_mark unary.Minus = mark.Minus
@@ -87,7 +87,7 @@ infix_mark binary.GreaterThan = mark.GreaterThan
 infix_mark binary.ExactlyEqual = mark.ExactlyEqual
 infix_mark binary.ExactlyUnequal = mark.ExactlyUnequal
 
--- an operator, a send, a match or a catch: it is in parentheses where it is an operand. A negative integer, which no
+-- an operator, a send, a match or a catch: it is in parentheses if it is an operand. A negative integer, which no
 -- text has, is laid out as `-` on an integer, so it is in parentheses too.
 abbrev pub is_operator : Exp → Bool
 is_operator (int l (negsuc n)) = true
@@ -106,7 +106,7 @@ is_call (apply l RemoteCall es) = true
 is_call (apply l FunCall es) = true
 is_call _ = false
 
--- what is in parentheses where it is called, or is the module or the name of a call
+-- what is in parentheses when it is called, or is the module or the name of a call
 abbrev pub is_open : Exp → Bool
 is_open e = is_operator e || is_call e
 
@@ -127,7 +127,7 @@ pub data Opening : Type 0 where
 abbrev pub lay_parameters : Gap → Pats → List Piece
 lay_parameters g ps = sign g mark.ParenOpen ∷ (lay_patterns tight ps ++ sign tight mark.ParenClose ∷ [])
 
--- the variable for the stack of a clause behind `catch`, where it has one
+-- the variable for the stack of a clause after `catch`, if it has one
 abbrev pub lay_stack : Option Pat → List Piece
 lay_stack None = []
 lay_stack (Some x) = sign tight mark.Colon ∷ lay_pattern tight x
@@ -186,7 +186,7 @@ abbrev mutual
   lay g d (comprehension l e qs) =
       sign g mark.BracketOpen ∷ (lay tight d e ++ sign blank mark.BarBar ∷ (lay_qualifiers d qs ++ sign tight mark.BracketClose ∷ []))
 
-  -- expressions with commas between them: the first one behind the gap g, each other one behind the gap h
+  -- expressions with commas between them: the first one after the gap g, each other one after the gap h
   pub lay_all : Gap → Gap → ℕ → Exps → List Piece
   lay_all g h d none = []
   lay_all g h d (more e es) = lay g d e ++ lay_more h d es
@@ -196,7 +196,7 @@ abbrev mutual
   lay_more h d none = []
   lay_more h d (more e es) = sign tight mark.Comma ∷ (lay h d e ++ lay_more h d es)
 
-  -- what follows the first element of a list with a tail: the other elements, and the tail behind a bar
+  -- what follows the first element of a list with a tail: the other elements, and the tail after a bar
   pub lay_to_tail : ℕ → Exps → List Piece
   lay_to_tail d none = []
   lay_to_tail d (more t none) = sign blank mark.Bar ∷ lay blank d t
@@ -215,7 +215,7 @@ abbrev mutual
   lay_alternatives d no_guard = []
   lay_alternatives d (alternative es gs) = sign tight mark.Semicolon ∷ (lay_all blank blank d es ++ lay_alternatives d gs)
 
-  -- the guard of a clause behind its patterns, where it has one
+  -- the guard of a clause after its patterns, if it has one
   pub lay_when : ℕ → Guards → List Piece
   lay_when d no_guard = []
   lay_when d (alternative es gs) = sign blank mark.When ∷ (lay_all blank blank d es ++ lay_alternatives d gs)
@@ -228,7 +228,7 @@ abbrev mutual
   lay_clause (with_name f) g d (clause ps gs s) =
       piece g (Atom f) ∷ (lay_parameters tight ps ++ (lay_when d gs ++ sign blank mark.Arrow ∷ lay_body (d + 4) s))
 
-  -- clauses with `;` between them: the first one behind the gap g on a line d deep, the others on lines of their own,
+  -- clauses with `;` between them: the first one after the gap g on a line d deep, the others on lines of their own,
   -- e deep
   pub lay_clauses : Opening → Gap → ℕ → ℕ → Clauses → List Piece
   lay_clauses o g d e no_clauses = []
@@ -238,7 +238,7 @@ abbrev mutual
   lay_more_clauses o e no_clauses = []
   lay_more_clauses o e (more_clauses c cs) = sign tight mark.Semicolon ∷ (lay_clause o (line e) e c ++ lay_more_clauses o e cs)
 
-  -- the parts of a `try` from `of`, from `catch` and from `after` on, where there are any
+  -- the parts of a `try` from `of`, from `catch` and from `after` on, if there are any
   pub lay_of : ℕ → Clauses → List Piece
   lay_of d no_clauses = []
   lay_of d (more_clauses c cs) =
@@ -252,7 +252,7 @@ abbrev mutual
   lay_after d no_after = []
   lay_after d (after s) = sign (line d) mark.After ∷ lay_body (d + 4) s
 
-  -- a clause behind `catch`, always with its class
+  -- a clause after `catch`, always with its class
   pub lay_handler : ℕ → CatchTree → List Piece
   lay_handler d (catch_clause c p v gs s) =
       lay_pattern (line d) c ++ sign tight mark.Colon ∷ (lay_pattern tight p ++ (lay_stack v
@@ -275,7 +275,7 @@ abbrev mutual
   lay_qualifier d (generator p e) = lay_pattern blank p ++ sign blank mark.From ∷ lay blank d e
   lay_qualifier d (filter e) = lay blank d e
 
--- the dot behind the clauses of a function: none where it has no clause, as in no text
+-- the dot after the clauses of a function: none if it has no clause, as in no text
 abbrev pub lay_dot : Clauses → List Piece
 lay_dot no_clauses = []
 lay_dot (more_clauses c cs) = piece tight Dot ∷ []
@@ -297,7 +297,7 @@ abbrev pub lay_more_entries : List Export → List Piece
 lay_more_entries [] = []
 lay_more_entries (x ∷ xs) = sign tight mark.Comma ∷ (lay_entry blank x ++ lay_more_entries xs)
 
--- the export line, where something is exported
+-- the export line, if something is exported
 abbrev pub lay_exports : List Export → List Piece
 lay_exports [] = []
 lay_exports (x ∷ xs) =

@@ -1,4 +1,3 @@
-pub mod MarkText
 pub mod Pieces
 pub mod Layout
 pub mod Unlined

@@ -1,4 +1,4 @@
--- Lists as they are laid out from some item on: where it is the first one, and where it follows others.
+-- Lists as they are laid out from some item on: when it is the first one, and when it follows others.
 
 use Rattle.std.specs.Prelude.{ℕ, Bool, true, false, List, [], ◌∷◌, ◌++◌, ◌+◌}
 use Rattle.edb_scan.specs.declared.lexeme.Token.TheVariants.{Atom, Dot}
@@ -35,7 +35,7 @@ lay_tail_item true last d e = lay tight d e
 lay_tail_item false true d e = sign blank mark.Bar ∷ lay blank d e
 lay_tail_item false false d e = sign tight mark.Comma ∷ lay blank d e
 
--- an operator and the operand behind it
+-- an operator and the operand after it
 abbrev pub lay_behind : ℕ → Mark → Exp → List Piece
 lay_behind d x b = sign blank x ∷ grouped (is_operator b) (λ h. lay h d b) blank
 
@@ -43,7 +43,7 @@ lay_behind d x b = sign blank x ∷ grouped (is_operator b) (λ h. lay h d b) bl
 abbrev pub lay_braces : Gap → ℕ → Exps → List Piece
 lay_braces g d es = sign g mark.BraceOpen ∷ (lay_all tight blank d es ++ sign tight mark.BraceClose ∷ [])
 
--- the first two of operands with an operator between them; in braces where there are fewer
+-- the first two of operands with an operator between them; in braces if there are fewer
 abbrev pub lay_infix : Gap → ℕ → Mark → Exps → List Piece
 lay_infix g d x (more a (more b es)) =
     grouped (is_operator a) (λ h. lay h d a) g ++ lay_behind d x b
@@ -81,7 +81,7 @@ abbrev pub clauses_left : Bool → Opening → Gap → ℕ → ℕ → Clauses �
 clauses_left true o g d e cs = lay_clauses o g d e cs
 clauses_left false o g d e cs = lay_more_clauses o e cs
 
--- clauses behind `catch` from the first one on
+-- clauses after `catch` from the first one on
 abbrev pub lay_handlers : ℕ → Catches → List Piece
 lay_handlers d no_catches = []
 lay_handlers d (more_catches h hs) = lay_handler d h ++ lay_more_handlers d hs

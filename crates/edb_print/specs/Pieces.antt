@@ -1,4 +1,4 @@
--- Pieces of a printed text: each is a token and the gap before it. The text is what they spell, one behind the other.
+-- Pieces of a printed text: each is a token and the gap before it. The text is what they spell, one after the other.
 
 use Rattle.std.specs.Prelude.{ℕ, ◌+◌, List, [], ◌∷◌, ◌++◌, map, if◌then◌else◌, replicate, codes, encode_utf8_all}
 use lib.Utf8.{scalar}
@@ -10,9 +10,9 @@ use Rattle.edb_scan.specs.declared.lexeme.Token.{Token}
 use Rattle.edb_scan.specs.declared.lexeme.Token.TheVariants as token
 use Rattle.edb_scan.specs.declared.lexeme.Token.TheVariants.{Int, Float, Char, Atom, Var, Str, Dot}
 use Rattle.edb_scan.specs.declared.lexeme.Placed.{Placed}
-use Rattle.edb_print.specs.MarkText.{mark_text}
+use Rattle.edb_scan.specs.MarkText.{mark_text}
 
--- What stands before a token: nothing; a space; or the end of a line, and the next line's spaces up to the token.
+-- What comes before a token: nothing; a space; or the end of a line, and the next line's spaces up to the token.
 pub data Gap : Type 0 where
   tight : Gap
   blank : Gap
@@ -29,7 +29,7 @@ piece g t = record { gap = g; token = t }
 abbrev pub sign : Gap → Mark → Piece
 sign g x = piece g (token.Mark x)
 
--- a code point as a character: one that is none is written as U+FFFD
+-- a code point as a character: what isn't one is written as U+FFFD
 abbrev pub shown : ℕ → ℕ
 shown c = if scalar c then c else 65533
 
@@ -53,17 +53,17 @@ gap_text (line d) = 10 ∷ replicate d 32
 abbrev pub piece_text : Piece → List ℕ
 piece_text p = gap_text p.gap ++ spelling p.token
 
--- the text of pieces one behind the other
+-- the text of pieces one after the other
 abbrev pub bytes_of : List Piece → List ℕ
 bytes_of ps = flat_map piece_text ps
 
--- the line of a token that stands behind this gap, where the one before it stands on line l
+-- the line of a token after this gap, if the one before it is on line l
 abbrev pub line_behind : ℕ → Gap → ℕ
 line_behind l tight = l
 line_behind l blank = l
 line_behind l (line d) = l + 1
 
--- the tokens of pieces, each on its line, where what stands before them ends on line l
+-- the tokens of pieces, each on its line, if what is before them ends on line l
 abbrev pub tokens_of : ℕ → List Piece → List Placed
 tokens_of l [] = []
 tokens_of l (p ∷ ps) = record { line = line_behind l p.gap; token = p.token } ∷ tokens_of (line_behind l p.gap) ps

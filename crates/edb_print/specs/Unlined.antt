@@ -1,4 +1,4 @@
--- Trees without their lines: each line is 0. Two texts have the same tree but for lines where their trees are equal
+-- Trees without their lines: each line is 0. Two texts have the same tree but for lines if their trees are equal
 -- without them.
 
 use Rattle.std.specs.Prelude.{Option, None, Some, map}

@@ -1,4 +1,4 @@
-//! Clauses, and what stands in them; qualifiers.
+//! Clauses, and what they have in them; qualifiers.
 
 ghost use Rattle.std.specs.Prelude.{◌≡◌, ◌++◌, ◌∷◌, OnOk, true};
 ghost use Rattle.edb_syntax.specs.Syntax.{clauses_of, catches_of, qualifiers_of};
@@ -74,7 +74,7 @@ fn put_guard(
     Ok(())
 }
 
-/// Puts the guard of a clause behind its patterns, where it has one.
+/// Puts the guard of a clause after its patterns, if it has one.
 #[cycle(put_expression)]
 fn put_when(out: &mut Vec<u8>, alloc: Global, depth: usize, guard: &Guard) -> Result<(), AllocError>
     ensures { OnOk result (out.new.items ≡ out.old.items ++ bytes_of (lay_when depth guard.now)) }
@@ -159,7 +159,7 @@ pub(crate) fn put_block(
     put_clauses(out, alloc, opening, Gap::Line(inner), inner, inner, clauses)
 }
 
-/// Puts a mark, and clauses with a pattern behind it.
+/// Puts a mark, and clauses with a pattern after it.
 #[cycle(put_expression)]
 pub(crate) fn put_opened(
     out: &mut Vec<u8>,
@@ -175,7 +175,7 @@ pub(crate) fn put_opened(
     put_block(out, alloc, Opening::Pattern, depth, clauses)
 }
 
-/// Puts the part of a `try` from `of` on, where there is one.
+/// Puts the part of a `try` from `of` on, if there is one.
 #[cycle(put_expression)]
 pub(crate) fn put_of(
     out: &mut Vec<u8>,
@@ -191,7 +191,7 @@ pub(crate) fn put_of(
     put_opened(out, alloc, Gap::Line(depth), depth, Mark::Of, clauses)
 }
 
-/// Puts the part of a `try` from `catch` on, where there is one.
+/// Puts the part of a `try` from `catch` on, if there is one.
 #[cycle(put_expression)]
 pub(crate) fn put_catch(
     out: &mut Vec<u8>,
@@ -209,7 +209,7 @@ pub(crate) fn put_catch(
     put_handlers(out, alloc, inner, clauses)
 }
 
-/// Puts clauses behind `catch` with `;` between them, each on lines of its own, so deep.
+/// Puts clauses after `catch` with `;` between them, each on lines of its own, so deep.
 #[cycle(put_expression)]
 fn put_handlers(
     out: &mut Vec<u8>,
@@ -232,7 +232,7 @@ fn put_handlers(
     Ok(())
 }
 
-/// Puts a clause behind `catch`, with its class.
+/// Puts a clause after `catch`, with its class.
 #[cycle(put_expression)]
 fn put_handler(
     out: &mut Vec<u8>,
@@ -250,7 +250,7 @@ fn put_handler(
     put_indented(out, alloc, Gap::Blank, depth, Mark::Arrow, &clause.body)
 }
 
-/// Puts the variable for the stack, where there is one.
+/// Puts the variable for the stack, if there is one.
 fn put_stack(out: &mut Vec<u8>, alloc: Global, stack: &Option<Pattern>) -> Result<(), AllocError>
     ensures { OnOk result (out.new.items ≡ out.old.items ++ bytes_of (lay_stack stack.now)) }
 {
@@ -263,7 +263,7 @@ fn put_stack(out: &mut Vec<u8>, alloc: Global, stack: &Option<Pattern>) -> Resul
     }
 }
 
-/// Puts the part of a `try` from `after` on, where there is one.
+/// Puts the part of a `try` from `after` on, if there is one.
 #[cycle(put_expression)]
 fn put_after(
     out: &mut Vec<u8>,

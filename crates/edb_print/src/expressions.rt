@@ -17,8 +17,9 @@ use crate::patterns::put_pattern;
 use crate::tokens::{
     put_entry, put_float, put_integer, put_name, put_sign, put_string, put_variable,
 };
+use edb_lang::UnaryOp;
 use edb_scan::Mark;
-use edb_syntax::{Expr, ExprNode, Operation, Sequence, UnaryOp};
+use edb_syntax::{Expr, ExprNode, Operation, Sequence};
 use std::alloc::{AllocError, Global};
 
 /// Puts an expression. `depth` is how deep the line is on which it begins.
@@ -121,7 +122,7 @@ pub(crate) fn put_expression(
     }
 }
 
-/// Puts an operation on its operands; these in braces where they are fewer than it takes.
+/// Puts an operation on its operands; these in braces if they are fewer than it takes.
 #[cycle(put_expression)]
 #[tactic(auto, using(edb_syntax::proofs::Lists::lists, crate::proofs::Texts::texts, crate::proofs::Laid::binary_laid, crate::proofs::Laid::send_laid))]
 fn put_operation(
@@ -212,7 +213,7 @@ fn put_infix(
     }
 }
 
-/// Puts an operator and the operand behind it.
+/// Puts an operator and the operand after it.
 #[cycle(put_expression)]
 fn put_behind(
     out: &mut Vec<u8>,
@@ -353,7 +354,7 @@ fn put_list_with_tail(
     put_sign(out, Gap::Tight, Mark::BracketClose)
 }
 
-/// Puts elements and the tail behind them.
+/// Puts elements and the tail after them.
 #[cycle(put_expression)]
 fn put_with_tail(
     out: &mut Vec<u8>,
@@ -396,7 +397,7 @@ fn put_tail_item(
     put_expression(out, alloc, Gap::Blank, depth, expr)
 }
 
-/// Puts expressions with commas between them, all but so many. `first`: no comma stands before the first one.
+/// Puts expressions with commas between them, all but so many. `first`: no comma comes before the first one.
 #[cycle(put_expression)]
 pub(crate) fn put_items(
     out: &mut Vec<u8>,
@@ -423,7 +424,7 @@ pub(crate) fn put_items(
     Ok(())
 }
 
-/// Puts an expression, behind a comma where it isn't the first one.
+/// Puts an expression, after a comma if it isn't the first one.
 #[cycle(put_expression)]
 fn put_item(
     out: &mut Vec<u8>,

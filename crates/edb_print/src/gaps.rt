@@ -1,4 +1,4 @@
-//! What stands before a token.
+//! What comes before a token.
 
 ghost use Rattle.std.specs.Prelude.{◌≡◌, ◌++◌, ◌+◌, IfOk, OnOk, replicate};
 ghost use Rattle.edb_print.specs.Pieces.{gap_text};
@@ -6,7 +6,7 @@ ghost use Rattle.edb_print.specs.Views.{gap_of};
 
 use std::alloc::AllocError;
 
-/// What stands before a token.
+/// What comes before a token.
 #[derive(Clone, Copy)]
 pub(crate) enum Gap {
     /// Nothing.
@@ -44,7 +44,7 @@ pub(crate) fn put_gap(out: &mut Vec<u8>, gap: Gap) -> Result<(), AllocError>
     }
 }
 
-/// Four spaces deeper; refused where no memory would hold so many spaces.
+/// Four spaces deeper; fails if no memory would hold so many spaces.
 pub(crate) fn deeper(depth: usize) -> Result<usize, AllocError>
     ensures { IfOk result (λ d. d ≡ depth + 4) }
 {

@@ -16,7 +16,7 @@ pub fn layout_reads()
         → (w : ModuleTree) × ReadsFile (tokens_of 1 (lay_module m)) w × (unlined_module w ≡ unlined_module m) }
 {}
 
-/// What `module_text` writes of a module that the grammar reads from a text's tokens is a text again, where it has at most
+/// What `module_text` writes of a module that the grammar reads from a text's tokens is a text again, if it has at most
 /// 1,000,000 bytes: its tokens read as the same module but for lines.
 pub fn printed_reads()
     ensures { (bytes : List ℕ) (tokens : List Placed) (m : ModuleTree) → AreTokens bytes tokens → ReadsFile tokens m

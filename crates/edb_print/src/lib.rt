@@ -9,9 +9,6 @@ mod marks;
 mod modules;
 mod operators;
 mod patterns;
-mod quotes;
-#[cfg(test)]
-mod tests;
 mod tokens;
 
 pub use laws::{layout_reads, printed_reads};

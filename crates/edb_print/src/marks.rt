@@ -1,7 +1,7 @@
 //! The spellings of the marks and the reserved words.
 
 ghost use Rattle.std.specs.Prelude.{◌≡◌};
-ghost use Rattle.edb_print.specs.MarkText.{mark_text};
+ghost use Rattle.edb_scan.specs.MarkText.{mark_text};
 
 use edb_scan::Mark;
 

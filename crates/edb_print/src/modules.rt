@@ -60,7 +60,7 @@ fn put_dot(out: &mut Vec<u8>) -> Result<(), AllocError>
     Ok(())
 }
 
-/// Puts a function; nothing where it has no clause.
+/// Puts a function; nothing if it has no clause.
 fn put_function(out: &mut Vec<u8>, alloc: Global, function: &Function) -> Result<(), AllocError>
     ensures { OnOk result (out.new.items ≡ out.old.items ++ bytes_of (lay_function function.now)) }
 {
@@ -115,7 +115,7 @@ fn put_attribute_end(out: &mut Vec<u8>) -> Result<(), AllocError>
     put_dot(out)
 }
 
-/// Puts the export line, where something is exported.
+/// Puts the export line, if something is exported.
 fn put_exports(out: &mut Vec<u8>, alloc: Global, exports: &[Export]) -> Result<(), AllocError>
     ensures { OnOk result (out.new.items ≡ out.old.items ++ bytes_of (lay_exports exports.now)) }
 {
@@ -138,7 +138,7 @@ fn put_module_line(out: &mut Vec<u8>, name: &[u8]) -> Result<(), AllocError>
     put_attribute_end(out)
 }
 
-/// The text of a module; refused only for want of memory.
+/// The text of a module; fails only when out of memory.
 #[tactic(auto, using(crate::proofs::Texts::texts), unfolding(crate::specs::Layout::text_of))]
 pub fn module_text(alloc: Global, module: &Module) -> Result<Bytes, AllocError>
     ensures { IfOk result (λ bytes. bytes ≡ text_of «module».now) }

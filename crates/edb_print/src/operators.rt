@@ -6,8 +6,9 @@ ghost use Rattle.edb_print.specs.Layout as layout;
 ghost use Rattle.edb_print.specs.Views.{gap_of};
 
 use crate::gaps::Gap;
+use edb_lang::{BinaryOp, UnaryOp};
 use edb_scan::Mark;
-use edb_syntax::{BinaryOp, Expr, ExprNode, Operation, UnaryOp};
+use edb_syntax::{Expr, ExprNode, Operation};
 
 /// The mark of an operator before its operand.
 pub(crate) fn prefix(op: UnaryOp) -> Mark
@@ -21,7 +22,7 @@ pub(crate) fn prefix(op: UnaryOp) -> Mark
     }
 }
 
-/// The gap behind it.
+/// The gap after it.
 pub(crate) fn prefix_gap(op: UnaryOp) -> Gap
     ensures { gap_of result ≡ layout.prefix_gap op }
 {
@@ -100,7 +101,7 @@ fn calls(expr: &Expr) -> bool
     }
 }
 
-/// Whether an expression is in parentheses where it is called.
+/// Whether an expression is in parentheses when it is called.
 pub(crate) fn is_looser(expr: &Expr) -> bool
     ensures { result ≡ is_open expr.now }
 {

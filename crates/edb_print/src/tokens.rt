@@ -1,4 +1,4 @@
-//! Tokens, each behind its gap.
+//! Tokens, each after its gap.
 
 ghost use Rattle.std.specs.Prelude.{◌≡◌, ◌++◌, ◌∷◌, [], IfOk, OnOk, map, string_bytes, encode_utf8_all};
 ghost use Rattle.std.specs.Fmt.{decimal};
@@ -12,10 +12,9 @@ ghost use Rattle.edb_print.specs.Views.{gap_of};
 
 use crate::gaps::{Gap, put_gap};
 use crate::marks::spelling;
-use crate::quotes::put_quoted;
 use edb_lang::Name;
 use edb_scan::Mark;
-use edb_text::put_atom;
+use edb_text::{put_atom, put_quoted};
 use std::alloc::{AllocError, Global};
 
 /// Puts a mark or a reserved word.
@@ -84,7 +83,7 @@ pub(crate) fn put_float(out: &mut Vec<u8>, gap: Gap) -> Result<(), AllocError>
     Ok(())
 }
 
-/// A code point as a character: U+FFFD for one that is none.
+/// A code point as a character: U+FFFD if it isn't one.
 fn character(point: u32) -> char
     ensures { result ≡ shown point }
 {

@@ -5,11 +5,9 @@ use Rattle.std.specs.Fmt.{digits}
 use Rattle.edb_lang.specs.Terms.{Datum, int, atom, tuple, nil, cons, none, more}
 use Rattle.edb_lang.specs.TermText.{text, plain_text, tuple_text, items_text}
 use Rattle.edb_lang.specs.declared.small.Action.TheVariants as action
-use Rattle.edb_model.specs.declared.act.ActKind.TheVariants as kind
-use Rattle.edb_event.specs.declared.call.AutoFlag.TheVariants as flag
+use Rattle.edb_lang.specs.declared.act.ActKind.TheVariants as kind
 use Rattle.edb_event.specs.declared.call.Call.TheVariants as call
 use Rattle.edb_event.specs.declared.call.ProcStatus.TheVariants as status
-use Rattle.edb_event.specs.declared.call.TraceWord.TheVariants as trace
 use Rattle.edb_event.specs.declared.entry.Cause.TheVariants.{Order, Break}
 use Rattle.edb_event.specs.declared.entry.Entry.{Entry}
 use Rattle.edb_event.specs.declared.entry.Entry.TheVariants.{Start, Load, Lease, Did, Signal, Advance, Stop, Trigger, Served}
@@ -56,10 +54,6 @@ no_rows : entry_text (Served 1 call.Ipb (reply.Rows [])) ≡ codes "-- 1 ipb: 0 
 unfolding digits
 no_rows = refl
 
-ib_row : entry_text (Served 1 (call.Ib (codes "shop") 7) reply.Ok) ≡ codes "-- 1 ib shop 7: ok\n"
-unfolding digits
-ib_row = refl
-
 function_row : entry_text (Served 3 (call.IbIn (codes "shop") (codes "sum") 2) (reply.Refused refusal.FunctionNotFound))
     ≡ codes "-- 3 ib shop sum 2: function_not_found\n"
 unfolding digits
@@ -74,28 +68,6 @@ refused_start : entry_text (Served 1 (call.Start (codes "shop") (codes "main") o
 unfolding digits plain_text text tuple_text items_text
 refused_start = refl
 
-flags_row : entry_text (Served 1 (call.Iaa (flag.Init ∷ flag.Break ∷ [])) reply.Ok) ≡ codes "-- 1 iaa init break: ok\n"
-unfolding digits
-flags_row = refl
-
-no_flags : entry_text (Served 1 (call.Iaa []) reply.Ok) ≡ codes "-- 1 iaa false: ok\n"
-unfolding digits
-no_flags = refl
-
-frames_row : entry_text (Served 1 (call.Ist trace.NoTail) reply.Ok) ≡ codes "-- 1 ist no_tail: ok\n"
-unfolding digits
-frames_row = refl
-
-trigger_action : entry_text (Served 1 (call.Iba (codes "shop") 7 action.Enable) reply.Ok)
-    ≡ codes "-- 1 iba shop 7 enable: ok\n"
-unfolding digits
-trigger_action = refl
-
-condition_row : entry_text (Served 1 (call.Ibc (codes "shop") 7 (codes "check", codes "rich")) reply.Ok)
-    ≡ codes "-- 1 ibc shop 7 check rich: ok\n"
-unfolding digits
-condition_row = refl
-
 exit_row : entry_text (Did 1 kind.End (codes "normal") []) ≡ codes "-- <1> exit normal\n"
 unfolding digits
 exit_row = refl
@@ -104,7 +76,7 @@ signal_row : entry_text (Signal 3 (Some (codes "{bad_price,[]}"))) ≡ codes "--
 unfolding digits
 signal_row = refl
 
--- a signal that ended nothing is told by no line, and so are a lease and an act that prints nothing
+-- a signal that ended nothing has no line, and neither has a lease or an act that prints nothing
 quiet_signal : entry_text (Signal 3 None) ≡ []
 quiet_signal = refl
 
@@ -122,7 +94,7 @@ disable_row : entry_text (Trigger 1 (codes "shop") 7 4 action.Disable true) ≡ 
 unfolding digits
 disable_row = refl
 
--- what leaves the breakpoint as it was, and what came too late, is told by no line
+-- what leaves the breakpoint as it was, and what came too late, has no line
 enable_row : entry_text (Trigger 1 (codes "shop") 7 4 action.Enable true) ≡ []
 enable_row = refl
 

@@ -1,4 +1,3 @@
-pub mod Commands
+pub mod Places
 pub mod Rendering
 pub mod Replies
-pub mod Words

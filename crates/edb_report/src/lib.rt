@@ -1,12 +1,10 @@
-//! The transcript of a session: the text of each entry of its journal. The definitions stand in specs/:
-//! how lines name what they tell of, the texts of commands and of replies, and the lines of entries.
+//! The transcript of a session: the text of each entry of its journal. The definitions are in specs/:
+//! how lines name places and functions, the texts of replies, and the lines of entries. The words of
+//! commands and the small words are those of `edb_words`.
 #![tactic(auto)]
 
-mod commands;
 mod entries;
+mod places;
 mod replies;
-#[cfg(test)]
-mod tests;
-mod words;
 
 pub use entries::{entry_text, render};

@@ -16,10 +16,10 @@ use Rattle.edb_lang.specs.Pairs.{Pairs, bound}
 use Rattle.edb_lang.specs.Syntax as syntax
 use Rattle.edb_lang.specs.Syntax.{Exp, Exps, FunctionTree, ModuleTree}
 use Rattle.edb_lang.specs.TermText.{same_name}
-use Rattle.edb_model.specs.declared.act.ActKind.TheVariants as act
+use Rattle.edb_lang.specs.declared.act.ActKind.TheVariants as act
 use Rattle.edb_model.specs.Running.{Operation, operate, local_call, remote_call, Info, Run, value, variable, node, match, sequence, body, raised, Runs, none, more, running, all_running, all_values, opening_call, value_of, values_of}
 use Rattle.edb_model.specs.Lookup.{version_in, function_in, exports, version_for, function_for}
-use Rattle.edb_model.specs.Move.{Place, Handler, Redex, look, apply, bind, begin, follow, finished, Effect, turns, leaves, raises, tells, within, if_some, closed, operand, before, within_body, outside, go, go_first, settled, error, fits, all_matched, matched, badmatch, most_nested, body_of, operated, entered, called, is_display, home_of, applied, rewrite, moved, answered, acts, pure, next_at, told, redex, next}
+use Rattle.edb_model.specs.Move.{Place, Handler, Redex, look, apply, bind, begin, follow, finished, Effect, turns, leaves, raises, tells, within, if_some, closed, operand, before, within_body, outside, go, go_first, settled, error, fits, all_matched, matched, badmatch, unbound, most_nested, body_of, operated, entered, called, is_display, home_of, applied, rewrite, moved, answered, acts, pure, next_at, told, redex, next}
 use Rattle.edb_event.specs.Ranges.{IsShort}
 use Rattle.edb_rules.specs.Slices.{after_moves}
 use Rattle.edb_model.specs.Innermost.{or_else, innermost, innermost_of}
@@ -250,7 +250,7 @@ applied_keeps code current bounded p remote_call vs = remote_keeps code current 
 
 rewrite_keeps : (code : List ModuleTree) (current : List (List ℕ × ℕ)) → AreBounded code → IsKeeper (rewrite code current)
 rewrite_keeps code current bounded p (look x) round fine =
-    if_some_keeps AllBodies (bound x p.bindings) (λ v. turns p.bindings (value v)) (error (codes "unbound")) (λ v is. tt) tt
+    if_some_keeps AllBodies (bound x p.bindings) (λ v. turns p.bindings (value v)) (raises Error (framed unbound (term.atom x))) (λ v is. tt) tt
 rewrite_keeps code current bounded p (apply o vs) round fine = applied_keeps code current bounded p o vs
 rewrite_keeps code current bounded p (bind q v) round fine =
     if_some_keeps AllBodies (matched q v p.bindings) (λ bs. turns bs (value v)) (raises Error (framed badmatch v)) (λ bs is. tt) tt

@@ -3,7 +3,7 @@
 use Rattle.std.proofs.Common.{◌≡◌, ◌⊎◌, inl, inr, ℕ, zero, suc, ◌<◌, ◌≤◌, List, [], ◌∷◌, ◌++◌, length, Some, take, slice_index_or, slice_set, refl, sym, ap, subst, arith}
 use Rattle.std.proofs.lemmas.Option.{none-some}
 use Rattle.edb_model.specs.Running.{Run}
-use Rattle.edb_model.specs.Plain.{Plain, process_at}
+use Rattle.edb_model.specs.Plain.{Plain, running_at}
 use Rattle.edb_event.specs.declared.entry.Entry.{Entry}
 use Rattle.edb_rules.specs.Plans.{Plan}
 use Rattle.edb_rules.specs.Facts.{Debugged, Facts, unseen, debugged_at, with_debugged}
@@ -53,18 +53,18 @@ with_within : (f : Facts) (p : ℕ) (d : Debugged) → 1 ≤ p → p ≤ length 
 with_within f zero d least less = absurd (omega arith)
 with_within f (suc n) d least less = set_within f.debugged n d (omega arith)
 
-lives_first : (s : Plain) (p : ℕ) (t : Run) → (process_at s p).running ≡ Some t → 1 ≤ p
+lives_first : (s : Plain) (p : ℕ) (t : Run) → (running_at s p) ≡ Some t → 1 ≤ p
 lives_first s zero t lives = absurd (none-some t lives)
 lives_first s (suc n) t lives = omega arith
 
-pub with_living : (f : Facts) (p : ℕ) (d : Debugged) (t : Run) → length f.debugged ≡ length f.plain.processes → (process_at f.plain p).running ≡ Some t
+pub with_living : (f : Facts) (p : ℕ) (d : Debugged) (t : Run) → length f.debugged ≡ length f.plain.running → (running_at f.plain p) ≡ Some t
     → debugged_at (with_debugged f p d) p ≡ d
 with_living f p d t agree lives =
     let inside = lives_within f.plain p t lives in
     with_within f p d (lives_first f.plain p t lives) (omega arith)
 
 pub agree_at : (plan : Plan) (journal : List Entry) (k : ℕ) → Legal plan journal
-    → length (facts plan (take k journal)).debugged ≡ length (facts plan (take k journal)).plain.processes
+    → length (facts plan (take k journal)).debugged ≡ length (facts plan (take k journal)).plain.running
 agree_at plan journal k legal = lists_agree plan (take k journal) (legal_take plan journal k legal)
 
 -- one of the two that isn't the first

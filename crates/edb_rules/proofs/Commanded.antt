@@ -5,8 +5,8 @@ use Rattle.std.specs.List.{slice_get, fold}
 use Rattle.std.specs.Option.{option_map}
 use Rattle.std.specs.Prelude.{is_some}
 use Rattle.std.proofs.lemmas.Option.{none-some, same_Some, some_pair_parts, slice_get_within}
-use Rattle.edb_model.specs.declared.act.ActKind.TheVariants as kind
-use Rattle.edb_model.specs.declared.act.ActKind.{ActKind}
+use Rattle.edb_lang.specs.declared.act.ActKind.TheVariants as kind
+use Rattle.edb_lang.specs.declared.act.ActKind.{ActKind}
 use Rattle.edb_event.specs.declared.call.Command.{Command}
 use Rattle.edb_event.specs.declared.call.Call.{Call}
 use Rattle.edb_event.specs.declared.call.Call.TheVariants as call
@@ -58,6 +58,9 @@ did_served plan f p _ v bytes = refl
 note_served : (plan : Plan) (f : Facts) (e : Entry) → (note plan f e).served ≡ f.served + cond (is_command e) 1 0
 note_served plan f (entry.Start c p m n args) = refl
 note_served plan f (entry.Load c m v) = refl
+note_served plan f (entry.Skip con who) = refl
+note_served plan f (entry.Kill con who) = refl
+note_served plan f (entry.Expire con who) = refl
 note_served plan f (entry.Lease p b) = same_plus _ f.served (sym (with_served f p _))
 note_served plan f (entry.Ran p n c) = same_plus _ f.served (sym (with_served f p _))
 note_served plan f (entry.Ask p k) = same_plus f.served f.served refl
@@ -87,6 +90,9 @@ next_command plan f (entry.Start d p m n args) c x may is =
     let parts = some_pair_parts d c (call.Start m n args) x is in
     (sym parts.0 ∙ may.rule.console, may.rule.next ∙ ap (λ (y : Call). Some y) parts.1)
 next_command plan f (entry.Load d m v) c x may is = absurd may.rule
+next_command plan f (entry.Skip con who) c x may is = absurd may.rule
+next_command plan f (entry.Kill con who) c x may is = absurd may.rule
+next_command plan f (entry.Expire con who) c x may is = absurd may.rule
 next_command plan f (entry.Served d y r) c x may is =
     let parts = some_pair_parts d c y x is in
     (sym parts.0 ∙ may.rule.console, may.rule.next ∙ ap (λ (z : Call). Some z) parts.1)

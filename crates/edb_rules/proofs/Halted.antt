@@ -4,8 +4,8 @@ use Rattle.std.proofs.Common.{◌≡◌, ◌⊎◌, inl, inr, ℕ, suc, ◌<◌,
 use Rattle.std.specs.List.{slice_get}
 use Rattle.std.proofs.lemmas.Bool.{both_ways}
 use Rattle.std.proofs.lemmas.Option.{slice_get_within}
-use Rattle.edb_model.specs.declared.act.ActKind.{ActKind}
-use Rattle.edb_model.specs.declared.act.ActKind.TheVariants as kind
+use Rattle.edb_lang.specs.declared.act.ActKind.{ActKind}
+use Rattle.edb_lang.specs.declared.act.ActKind.TheVariants as kind
 use Rattle.edb_event.specs.declared.call.Call.{Call}
 use Rattle.edb_event.specs.declared.call.Call.TheVariants as call
 use Rattle.edb_event.specs.declared.reply.Refusal.{Refusal}
@@ -86,6 +86,9 @@ halted_step : (plan : Plan) (p : ℕ) (f : Facts) (e : Entry) → IsHalted p f �
 halted_step plan p f (entry.Start c q m n args) halted may =
     inl (ap (λ (d : Debugged). d.stopped) (start_same f (note plan f (entry.Start c q m n args)) refl p) ∙ halted)
 halted_step plan p f (entry.Load c m v) halted may = absurd may.rule
+halted_step plan p f (entry.Skip con who) halted may = absurd may.rule
+halted_step plan p f (entry.Kill con who) halted may = absurd may.rule
+halted_step plan p f (entry.Expire con who) halted may = absurd may.rule
 halted_step plan p f (entry.Lease q b) halted may = inl (halted_with f q _ p refl halted)
 halted_step plan p f (entry.Ran q n c) halted may = inl (halted_with f q _ p refl halted)
 halted_step plan p f (entry.Ask q k) halted may = absurd may.rule

@@ -43,6 +43,9 @@ ends_step : (plan : Plan) (f : Facts) (e : Entry) → IsCalm f → May plan f e
     → (d : Entry) (rest : List Entry) → (note plan f e).coming ≡ d ∷ rest → NoLease (note plan f e)
 ends_step plan f (entry.Start c p m n args) calm may = nothing_ends (note plan f (entry.Start c p m n args)) may.rule.call.whole
 ends_step plan f (entry.Load c m v) calm may = absurd may.rule
+ends_step plan f (entry.Skip con who) calm may = absurd may.rule
+ends_step plan f (entry.Kill con who) calm may = absurd may.rule
+ends_step plan f (entry.Expire con who) calm may = absurd may.rule
 ends_step plan f (entry.Lease p b) calm may = nothing_ends (note plan f (entry.Lease p b)) (with_coming f p _ ∙ may.rule.turn.call.whole)
 ends_step plan f (entry.Ran p n c) calm may = λ d rest is.
     ran_out f (note plan f (entry.Ran p n c)) p calm.one may.rule.out (ap (λ x. x.out) (with_here f p _ may.rule.out))

@@ -3,10 +3,10 @@
 use Rattle.std.proofs.Common.{◌≡◌, ◌⊎◌, inl, inr, ℕ, zero, suc, Bool, true, false, not, if◌then◌else◌, ◌&&◌, ◌||◌, nat_eq, List, length, Some, refl, sym, ◌∙◌, ap}
 use Rattle.std.proofs.lemmas.Bool.{both_ways, eqb-true, eq-eqb}
 use Rattle.std.specs.List.{fold}
-use Rattle.edb_model.specs.declared.act.ActKind.{ActKind}
-use Rattle.edb_model.specs.declared.act.ActKind.TheVariants as kind
+use Rattle.edb_lang.specs.declared.act.ActKind.{ActKind}
+use Rattle.edb_lang.specs.declared.act.ActKind.TheVariants as kind
 use Rattle.edb_model.specs.Running.{Run}
-use Rattle.edb_model.specs.Plain.{process_at}
+use Rattle.edb_model.specs.Plain.{running_at}
 use Rattle.edb_event.specs.declared.call.Call.{Call}
 use Rattle.edb_event.specs.declared.call.Call.TheVariants as call
 use Rattle.edb_event.specs.declared.reply.Reply.{Reply}
@@ -27,7 +27,7 @@ use Rattle.edb_rules.proofs.Tells.{AreTold, told_step, leave_lives, enter_tells}
 
 -- what the step rests on: each process is listed, and what ends a slice is of one that lives
 pub record Rests (f : Facts) : Type 0 where
-  pub agree : length f.debugged ≡ length f.plain.processes
+  pub agree : length f.debugged ≡ length f.plain.running
   pub told : AreTold f.plain f.coming
 
 pub rests_step : (plan : Plan) (f : Facts) (e : Entry) → Rests f → May plan f e → Rests (note plan f e)
@@ -58,7 +58,7 @@ pub and_is : (t b : Bool) → (if t then false else b) ≡ (not t && b)
 and_is true b = refl
 and_is false b = refl
 
-did_inside : (plan : Plan) (p : ℕ) (f : Facts) (q : ℕ) (k : ActKind) (v bytes : List ℕ) (t : Run) → Rests f → (process_at f.plain q).running ≡ Some t
+did_inside : (plan : Plan) (p : ℕ) (f : Facts) (q : ℕ) (k : ActKind) (v bytes : List ℕ) (t : Run) → Rests f → (running_at f.plain q) ≡ Some t
     → (debugged_at (note plan f (entry.Did q k v bytes)) p).meta ≡ inside_with p (debugged_at f p).meta (entry.Did q k v bytes)
 did_inside plan p f q kind.End v bytes t rests lives =
     meta_with f (note plan f (entry.Did q kind.End v bytes)) q _ p (with_living f q _ t rests.agree lives) (with_or f q _ p) ∙ and_is (nat_eq p q) _
@@ -76,6 +76,9 @@ reply_inside f c x _ p = served_inside f c x p
 inside_step : (plan : Plan) (p : ℕ) (f : Facts) (e : Entry) → Rests f → May plan f e → (debugged_at (note plan f e) p).meta ≡ inside_with p (debugged_at f p).meta e
 inside_step plan p f (entry.Start c q m n args) rests may = ap (λ (d : Debugged). d.meta) (start_same f (note plan f (entry.Start c q m n args)) refl p)
 inside_step plan p f (entry.Load c m v) rests may = absurd may.rule
+inside_step plan p f (entry.Skip con who) rests may = absurd may.rule
+inside_step plan p f (entry.Kill con who) rests may = absurd may.rule
+inside_step plan p f (entry.Expire con who) rests may = absurd may.rule
 inside_step plan p f (entry.Lease q b) rests may = with_same Bool (λ d. d.meta) f q _ refl p
 inside_step plan p f (entry.Ran q n c) rests may = with_same Bool (λ d. d.meta) f q _ refl p
 inside_step plan p f (entry.Ask q k) rests may = absurd may.rule

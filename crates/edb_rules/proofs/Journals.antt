@@ -6,7 +6,7 @@ use Rattle.edb_lang.specs.Syntax.{ModuleTree}
 use Rattle.edb_model.specs.Plain.{Plain}
 use Rattle.edb_model.specs.Labels.{Label, step, steps, IsPlainRun}
 use Rattle.edb_event.specs.declared.entry.Entry.{Entry}
-use Rattle.edb_event.specs.Erasure.{labels_of, erase}
+use Rattle.edb_rules.specs.Erasure.{labels_of, erase}
 use Rattle.edb_rules.specs.Plans.{Plan}
 use Rattle.edb_rules.specs.Facts.{Facts, at_first}
 use Rattle.edb_rules.specs.Notes.{note, after, facts}

@@ -12,6 +12,7 @@ pub mod Kept
 pub mod Commanded
 pub mod Bodies
 pub mod Bounds
+pub mod Refusals
 pub mod Ranges
 pub mod Numbers
 pub mod Between

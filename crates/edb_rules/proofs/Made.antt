@@ -7,8 +7,8 @@ use Rattle.edb_lang.specs.declared.small.Action.{Action}
 use Rattle.edb_lang.specs.declared.small.Action.TheVariants as action
 use Rattle.edb_lang.specs.declared.small.BreakRow.{BreakRow}
 use Rattle.edb_breaks.specs.Table.{Table, is_row, has_row, enabled_row, with_enabled}
-use Rattle.edb_model.specs.declared.act.ActKind.{ActKind}
-use Rattle.edb_model.specs.declared.act.ActKind.TheVariants as kind
+use Rattle.edb_lang.specs.declared.act.ActKind.{ActKind}
+use Rattle.edb_lang.specs.declared.act.ActKind.TheVariants as kind
 use Rattle.edb_event.specs.declared.call.Call.{Call}
 use Rattle.edb_event.specs.declared.call.Call.TheVariants as call
 use Rattle.edb_event.specs.declared.reply.Reply.{Reply}
@@ -107,6 +107,9 @@ reply_consoles plan f c x r may = reply_part (λ g. g.server.attached) f c x r r
 table_step : (plan : Plan) (f : Facts) (e : Entry) → Unit {0} → May plan f e → (note plan f e).server.table ≡ table_with f.server.table e
 table_step plan f (entry.Start c p m n args) kept may = refl
 table_step plan f (entry.Load c m v) kept may = absurd may.rule
+table_step plan f (entry.Skip con who) kept may = absurd may.rule
+table_step plan f (entry.Kill con who) kept may = absurd may.rule
+table_step plan f (entry.Expire con who) kept may = absurd may.rule
 table_step plan f (entry.Lease p b) kept may = ap (λ (s : Server). s.table) (with_server f p _)
 table_step plan f (entry.Ran p n c) kept may = ap (λ (s : Server). s.table) (with_server f p _)
 table_step plan f (entry.Ask p k) kept may = absurd may.rule
@@ -124,6 +127,9 @@ table_step plan f (entry.Served c x r) kept may = reply_table plan f c x r may
 modules_step : (plan : Plan) (f : Facts) (e : Entry) → Unit {0} → May plan f e → (note plan f e).server.interpreted ≡ modules_with f.server.interpreted e
 modules_step plan f (entry.Start c p m n args) kept may = refl
 modules_step plan f (entry.Load c m v) kept may = absurd may.rule
+modules_step plan f (entry.Skip con who) kept may = absurd may.rule
+modules_step plan f (entry.Kill con who) kept may = absurd may.rule
+modules_step plan f (entry.Expire con who) kept may = absurd may.rule
 modules_step plan f (entry.Lease p b) kept may = ap (λ (s : Server). s.interpreted) (with_server f p _)
 modules_step plan f (entry.Ran p n c) kept may = ap (λ (s : Server). s.interpreted) (with_server f p _)
 modules_step plan f (entry.Ask p k) kept may = absurd may.rule
@@ -141,6 +147,9 @@ modules_step plan f (entry.Served c x r) kept may = reply_modules plan f c x r m
 consoles_step : (plan : Plan) (f : Facts) (e : Entry) → Unit {0} → May plan f e → (note plan f e).server.attached ≡ consoles_with f.server.attached e
 consoles_step plan f (entry.Start c p m n args) kept may = refl
 consoles_step plan f (entry.Load c m v) kept may = absurd may.rule
+consoles_step plan f (entry.Skip con who) kept may = absurd may.rule
+consoles_step plan f (entry.Kill con who) kept may = absurd may.rule
+consoles_step plan f (entry.Expire con who) kept may = absurd may.rule
 consoles_step plan f (entry.Lease p b) kept may = ap (λ (s : Server). s.attached) (with_server f p _)
 consoles_step plan f (entry.Ran p n c) kept may = ap (λ (s : Server). s.attached) (with_server f p _)
 consoles_step plan f (entry.Ask p k) kept may = absurd may.rule

@@ -4,8 +4,8 @@ use Rattle.std.proofs.Common.{◌≡◌, ◌⊎◌, inl, inr, ℕ, zero, suc, �
 use Rattle.std.specs.List.{slice_get}
 use Rattle.std.proofs.lemmas.Bool.{both_ways}
 use Rattle.std.proofs.lemmas.Option.{slice_get_within}
-use Rattle.edb_model.specs.declared.act.ActKind.{ActKind}
-use Rattle.edb_model.specs.declared.act.ActKind.TheVariants as kind
+use Rattle.edb_lang.specs.declared.act.ActKind.{ActKind}
+use Rattle.edb_lang.specs.declared.act.ActKind.TheVariants as kind
 use Rattle.edb_event.specs.declared.call.Call.{Call}
 use Rattle.edb_event.specs.declared.call.Call.TheVariants as call
 use Rattle.edb_event.specs.declared.reply.Reply.{Reply}
@@ -61,6 +61,9 @@ still_step : (plan : Plan) (p : ℕ) (f : Facts) (e : Entry) → IsStill p f →
 still_step plan p f (entry.Start c q m n args) still may =
     inl (ap (λ (d : Debugged). d.resumed) (start_same f (note plan f (entry.Start c q m n args)) refl p) ∙ still)
 still_step plan p f (entry.Load c m v) still may = absurd may.rule
+still_step plan p f (entry.Skip con who) still may = absurd may.rule
+still_step plan p f (entry.Kill con who) still may = absurd may.rule
+still_step plan p f (entry.Expire con who) still may = absurd may.rule
 still_step plan p f (entry.Lease q b) still may = inl (still_with f q _ p refl still)
 still_step plan p f (entry.Ran q n c) still may = ran_still plan f q n c p still
 still_step plan p f (entry.Ask q k) still may = absurd may.rule

@@ -7,11 +7,11 @@ use Rattle.std.proofs.lemmas.Option.{none-some, same_Some}
 use Rattle.edb_lang.specs.declared.small.Action.{Action}
 use Rattle.edb_lang.specs.Syntax.{ModuleTree}
 use Rattle.edb_lang.specs.Terms.{Datum}
-use Rattle.edb_model.specs.declared.act.ActKind.{ActKind}
-use Rattle.edb_model.specs.declared.act.ActKind.TheVariants as kind
+use Rattle.edb_lang.specs.declared.act.ActKind.{ActKind}
+use Rattle.edb_lang.specs.declared.act.ActKind.TheVariants as kind
 use Rattle.edb_model.specs.Running.{Run}
 use Rattle.edb_model.specs.Move.{acts, next, is_move}
-use Rattle.edb_model.specs.Plain.{process_at}
+use Rattle.edb_model.specs.Plain.{running_at}
 use Rattle.edb_model.specs.Labels.{most_processes}
 use Rattle.edb_event.specs.declared.entry.Entry.{Entry}
 use Rattle.edb_event.specs.declared.entry.Entry.TheVariants as entry
@@ -85,6 +85,9 @@ fewer f g a none p q x y = a p q (none p x) (none q y)
 pub out_step : (plan : Plan) (f : Facts) (e : Entry) → IsOneOut f → May plan f e → MayAlone plan f e → IsOneOut (note plan f e)
 out_step plan f (entry.Start c p m n args) a may alone = fewer f (note plan f (entry.Start c p m n args)) a (start_none_new f (note plan f (entry.Start c p m n args)) refl)
 out_step plan f (entry.Load c m v) a may alone = absurd may.rule
+out_step plan f (entry.Skip con who) a may alone = absurd may.rule
+out_step plan f (entry.Kill con who) a may alone = absurd may.rule
+out_step plan f (entry.Expire con who) a may alone = absurd may.rule
 out_step plan f (entry.Lease p b) a may alone = λ q r x y. only f p _ alone q x ∙ sym (only f p _ alone r y)
 out_step plan f (entry.Ran p n c) a may alone = fewer f (note plan f (entry.Ran p n c)) a (none_new f p _ (λ o. absurd (both_ways false refl o)))
 out_step plan f (entry.Ask p k) a may alone = absurd may.rule
@@ -174,6 +177,9 @@ sorted : (plan : Plan) (f : Facts) (e : Entry) → May plan f e → MayAlone pla
 sorted plan f (entry.Start c p m n args) may alone =
     inr (inr (inr (inl (inl (record { console = c; process = p; home = m; name = n; args = args; is = refl; may = may.rule; alone = alone })))))
 sorted plan f (entry.Load c m v) may alone = absurd may.rule
+sorted plan f (entry.Skip con who) may alone = absurd may.rule
+sorted plan f (entry.Kill con who) may alone = absurd may.rule
+sorted plan f (entry.Expire con who) may alone = absurd may.rule
 sorted plan f (entry.Lease p b) may alone =
     inr (inr (inr (inr (inl (record { process = p; budget = b; is = refl; may = may.rule; alone = alone })))))
 sorted plan f (entry.Ran p n c) may alone = inr (inl (record { process = p; moves = n; conditions = c; is = refl; may = may.rule }))
@@ -225,8 +231,8 @@ same_turn plan f p q x y = elim (cases_order p q) [
   | inr (inr more) ↦ absurd (not_before plan f q p y x more)
 ]
 
-same_run : (f : Facts) (p q : ℕ) (t u : Run) → p ≡ q → (process_at f.plain p).running ≡ Some t → (process_at f.plain q).running ≡ Some u → t ≡ u
-same_run f p q t u same x y = same_Some t u (sym x ∙ (ap (λ (r : ℕ). (process_at f.plain r).running) same ∙ y))
+same_run : (f : Facts) (p q : ℕ) (t u : Run) → p ≡ q → (running_at f.plain p) ≡ Some t → (running_at f.plain q) ≡ Some u → t ≡ u
+same_run f p q t u same x y = same_Some t u (sym x ∙ (ap (λ (r : ℕ). (running_at f.plain r)) same ∙ y))
 
 one_lease : (plan : Plan) (f : Facts) (e d : Entry) → Leases plan f e → Leases plan f d → e ≡ d
 one_lease plan f e d x y =
@@ -271,10 +277,10 @@ one_serve plan f e d x y =
     cc (x.is, y.is)
 
 -- a start that is accepted isn't refused
-start_accepted : (plan : Plan) (f : Facts) (c : ℕ) (m n : List ℕ) (args : Datum) → length f.plain.processes < most_processes → reply_to plan f c (call.Start m n args) ≡ reply.Ok
-start_accepted plan f c m n args few = rw (lt-ltb (length f.plain.processes) most_processes few) refl
+start_accepted : (plan : Plan) (f : Facts) (c : ℕ) (m n : List ℕ) (args : Datum) → length f.plain.running < most_processes → reply_to plan f c (call.Start m n args) ≡ reply.Ok
+start_accepted plan f c m n args few = rw (lt-ltb (length f.plain.running) most_processes few) refl
 
-not_refused : (plan : Plan) (f : Facts) (c : ℕ) (m n : List ℕ) (args : Datum) (r : Reply) → length f.plain.processes < most_processes
+not_refused : (plan : Plan) (f : Facts) (c : ℕ) (m n : List ℕ) (args : Datum) (r : Reply) → length f.plain.running < most_processes
     → IsAnswer plan f c (call.Start m n args) r → MayAnswer (call.Start m n args) r → ⊥
 not_refused plan f c m n args r few (inl a) may =
     subst (λ (s : Reply). MayAnswer (call.Start m n args) s) (a.1 ∙ start_accepted plan f c m n args few) may

@@ -1,19 +1,19 @@
 -- Of two plain runs of the same modules that start one process, with the same call, one begins the other: at each place
 -- one label is enabled.
 
-use Rattle.std.proofs.Common.{◌≡◌, ◌⊎◌, inl, inr, ℕ, zero, suc, ◌+◌, ◌<◌, ◌≤◌, Bool, false, if◌then◌else◌, List, [], ◌∷◌, ◌++◌, length, Option, Some, slice_index_or, append-nil, append_assoc, refl, sym, ◌∙◌, ap, ap₂, subst, nat_lt, arith}
+use Rattle.std.proofs.Common.{◌≡◌, ◌⊎◌, inl, inr, ℕ, zero, suc, ◌+◌, ◌<◌, ◌≤◌, Bool, false, if◌then◌else◌, List, [], ◌∷◌, ◌++◌, length, Option, None, Some, slice_index_or, append-nil, append_assoc, refl, sym, ◌∙◌, ap, ap₂, subst, nat_lt, arith}
 use Rattle.std.proofs.lemmas.Option.{none-some, same_Some, cond_some, option_and_then_some}
 use Rattle.std.specs.Option.{option_and_then}
 use Rattle.edb_lang.specs.Syntax.{ModuleTree}
 use Rattle.edb_lang.specs.Terms.{Datum}
-use Rattle.edb_model.specs.declared.act.ActKind.TheVariants as kind
+use Rattle.edb_lang.specs.declared.act.ActKind.TheVariants as kind
 use Rattle.edb_model.specs.Running.{Run}
 use Rattle.edb_model.specs.Move.{Next, acts, begins, pure, next, is_move, redex}
-use Rattle.edb_model.specs.Acts.{displayed, acted}
-use Rattle.edb_model.specs.Plain.{Process, Plain, opening, nobody, process_at, with_process}
-use Rattle.edb_model.specs.Labels.{Label, move, act, signal, advance, start, load, moved_in, most_processes, step, steps}
+use Rattle.edb_model.specs.Acts.{displayed, exit_reason, acted}
+use Rattle.edb_model.specs.Plain.{Plain, opening, running_at, with_running, ended}
+use Rattle.edb_model.specs.Labels.{Label, move, act, signal, advance, start, load, skip, kill, expire, moved_in, most_processes, step, steps}
 use Rattle.edb_event.specs.declared.entry.Entry.{Entry}
-use Rattle.edb_event.specs.Erasure.{labels_of, erase}
+use Rattle.edb_rules.specs.Erasure.{labels_of, erase}
 use Rattle.edb_rules.specs.Plans.{Plan}
 use Rattle.edb_rules.specs.Facts.{Facts, at_first}
 use Rattle.edb_rules.specs.Notes.{note, facts}
@@ -34,14 +34,14 @@ loads_none plan f [] legal = tt
 loads_none plan f (e ∷ es) legal = none_loaded (labels_of e) (erase es) (no_loads plan f e legal.0) (loads_none plan (note plan f e) es legal.1)
 
 -- a process that has more to do has one of the numbers from 1 to that of the last process
-below : (qs : List Process) (n : ℕ) (t : Run) → (slice_index_or qs n nobody).running ≡ Some t → n < length qs
+below : (qs : List (Option Run)) (n : ℕ) (t : Run) → (slice_index_or qs n None) ≡ Some t → n < length qs
 below [] n t e = absurd (none-some t e)
 below (q ∷ qs) zero t e = omega arith
 below (q ∷ qs) (suc n) t e = let fewer = below qs n t e in omega arith
 
-is_numbered : (s : Plain) (p : ℕ) (t : Run) → (process_at s p).running ≡ Some t → (1 ≤ p) × (p ≤ length s.processes)
+is_numbered : (s : Plain) (p : ℕ) (t : Run) → (running_at s p) ≡ Some t → (1 ≤ p) × (p ≤ length s.running)
 is_numbered s zero t e = absurd (none-some t e)
-is_numbered s (suc n) t e = let fewer = below s.processes n t e in (omega arith, omega arith)
+is_numbered s (suc n) t e = let fewer = below s.running n t e in (omega arith, omega arith)
 
 -- the label with which a process goes on: its move where a move is next, and else its act
 abbrev label_of : ℕ → Run → Label
@@ -51,7 +51,7 @@ label_of p t = if is_move (next t) then move p else act p
 record Goes (s : Plain) (l : Label) : Type 0 where
   pub process : ℕ
   pub running : Run
-  pub lives : (process_at s process).running ≡ Some running
+  pub lives : (running_at s process) ≡ Some running
   pub is : l ≡ label_of process running
 
 no_move : (s t : Plain) (p : ℕ) (u : Run) (x : Next) → acted s p u x ≡ Some t → is_move x ≡ false
@@ -77,23 +77,26 @@ goes code s t (act p) loads starts e =
     })
 goes code s t signal loads starts e = absurd (none-some t e)
 goes code s t (advance c) loads starts e = absurd (none-some t e)
+goes code s t (skip who) loads starts e = absurd (none-some t e)
+goes code s t (kill who) loads starts e = absurd (none-some t e)
+goes code s t (expire who) loads starts e = absurd (none-some t e)
 goes code s t (load m k) loads starts e = absurd loads
 goes code s t (start m n args) loads starts e = absurd (omega (arith, starts))
 
 -- with one process there is one such label, and with none there is none
-one_label : (s : Plain) (l m : Label) → length s.processes ≡ 1 → Goes s l → Goes s m → l ≡ m
+one_label : (s : Plain) (l m : Label) → length s.running ≡ 1 → Goes s l → Goes s m → l ≡ m
 one_label s l m one x y =
     let a = is_numbered s x.process x.running x.lives in
     let b = is_numbered s y.process y.running y.lives in
     let same : x.process ≡ y.process = omega arith in
-    let run : x.running ≡ y.running = same_Some x.running y.running (sym x.lives ∙ (ap (λ (p : ℕ). (process_at s p).running) same ∙ y.lives)) in
+    let run : x.running ≡ y.running = same_Some x.running y.running (sym x.lives ∙ (ap (λ (p : ℕ). (running_at s p)) same ∙ y.lives)) in
     x.is ∙ (ap₂ label_of same run ∙ sym y.is)
 
-no_label : (s : Plain) (l : Label) → length s.processes ≡ 0 → Goes s l → ⊥
+no_label : (s : Plain) (l : Label) → length s.running ≡ 0 → Goes s l → ⊥
 no_label s l none x = let a = is_numbered s x.process x.running x.lives in omega arith
 
 -- how many processes there are after a label
-count_after : (code : List ModuleTree) (s t : Plain) (l : Label) → IsNoLoad l → step code s l ≡ Some t → length t.processes ≡ length s.processes + started l
+count_after : (code : List ModuleTree) (s t : Plain) (l : Label) → IsNoLoad l → step code s l ≡ Some t → length t.running ≡ length s.running + started l
 count_after code s t l loads e =
     let made = (steps_stay code s t (l ∷ []) (loads, tt) (ap (λ (o : Option Plain). option_and_then (λ (u : Plain). steps code u []) o) e)).count in
     omega arith
@@ -109,7 +112,7 @@ both_begin l m ls ms same (inl b) = inl (b.0, ap₂ (λ (z : Label) (zs : List L
 both_begin l m ls ms same (inr b) = inr (b.0, ap₂ (λ (z : Label) (zs : List Label). z ∷ zs) (sym same) b.1)
 
 -- where there is one process: of two runs that start none one begins the other
-alone : (code : List ModuleTree) (s t u : Plain) (ls ms : List Label) → length s.processes ≡ 1 → AreNoLoads ls → AreNoLoads ms
+alone : (code : List ModuleTree) (s t u : Plain) (ls ms : List Label) → length s.running ≡ 1 → AreNoLoads ls → AreNoLoads ms
     → starts_in ls ≡ [] → starts_in ms ≡ [] → steps code s ls ≡ Some t → steps code s ms ≡ Some u → IsBeginning ls ms ⊎ IsBeginning ms ls
 alone code s t u [] ms one a b x y e h = inl (ms, refl)
 alone code s t u (l ∷ ls) [] one a b x y e h = inr (l ∷ ls, refl)
@@ -121,12 +124,12 @@ alone code s t u (l ∷ ls) (m ∷ ms) one a b x y e h =
     let same : l ≡ m = one_label s l m one (goes code s v l a.0 left.0 first) (goes code s w m b.0 right.0 other) in
     let state : w ≡ v = same_Some w v (sym other ∙ (ap (λ (k : Label). step code s k) (sym same) ∙ first)) in
     let made = count_after code s v l a.0 first in
-    let still : length v.processes ≡ 1 = let none = left.0 in omega arith in
+    let still : length v.running ≡ 1 = let none = left.0 in omega arith in
     both_begin l m ls ms same
     (alone code v t u ls ms still a.1 b.1 left.1 right.1 rest (subst (λ (z : Plain). steps code z ms ≡ Some u) state further))))
 
 -- where there is no process, the first label is the start
-first_starts : (code : List ModuleTree) (s t : Plain) (l : Label) → length s.processes ≡ 0 → IsNoLoad l → step code s l ≡ Some t → started l ≡ 1
+first_starts : (code : List ModuleTree) (s t : Plain) (l : Label) → length s.running ≡ 0 → IsNoLoad l → step code s l ≡ Some t → started l ≡ 1
 first_starts code s t (start m n args) none loads e = refl
 first_starts code s t l none loads e = absurd (no_label s l none (goes code s t l loads refl e))
 
@@ -141,7 +144,7 @@ start_first m n args (start i j xs) ls one (inr e) = (cc, cc)
 start_first m n args l ls one x = absurd (omega (arith, one))
 
 -- so of two runs that start one process with one call one begins the other
-from_none : (code : List ModuleTree) (s t u : Plain) (m n : List ℕ) (args : Datum) (ls ms : List Label) → length s.processes ≡ 0
+from_none : (code : List ModuleTree) (s t u : Plain) (m n : List ℕ) (args : Datum) (ls ms : List Label) → length s.running ≡ 0
     → AreNoLoads ls → AreNoLoads ms → OneStart m n args ls → OneStart m n args ms
     → steps code s ls ≡ Some t → steps code s ms ≡ Some u → IsBeginning ls ms ⊎ IsBeginning ms ls
 from_none code s t u m n args [] ms none a b x y e h = inl (ms, refl)
@@ -155,7 +158,7 @@ from_none code s t u m n args (l ∷ ls) (k ∷ ks) none a b x y e h =
     let same : l ≡ k = left.0 ∙ sym right.0 in
     let state : w ≡ v = same_Some w v (sym other ∙ (ap (λ (z : Label). step code s z) (sym same) ∙ first)) in
     let made = count_after code s v l a.0 first in
-    let one : length v.processes ≡ 1 = omega arith in
+    let one : length v.running ≡ 1 = omega arith in
     both_begin l k ls ks same
     (alone code v t u ls ks one a.1 b.1 left.1 right.1 rest (subst (λ (z : Plain). steps code z ks ≡ Some u) state further))))
 
@@ -173,13 +176,13 @@ runs_agree p q j k m n args same legal other x y =
 prints_none : (s t : Plain) → t.output ≡ s.output → IsBeginning s.output t.output
 prints_none s t same = ([], append-nil s.output ∙ sym same)
 
-put_prints : (s t : Plain) (p : ℕ) (q : Process) → with_process s p q ≡ t → IsBeginning s.output t.output
+put_prints : (s t : Plain) (p : ℕ) (q : Option Run) → with_running s p q ≡ t → IsBeginning s.output t.output
 put_prints s t zero q e = prints_none s t (ap (λ (z : Plain). z.output) (sym e))
 put_prints s t (suc i) q e = prints_none s t (ap (λ (z : Plain). z.output) (sym e))
 
 act_prints : (s t : Plain) (p : ℕ) (u : Run) (x : Next) → acted s p u x ≡ Some t → IsBeginning s.output t.output
 act_prints s t p u (acts kind.Print) e = (displayed (redex u).1, ap (λ (z : Plain). z.output) (same_Some _ t e))
-act_prints s t p u (acts kind.End) e = put_prints s t p _ (same_Some _ t e)
+act_prints s t p u (acts kind.End) e = prints_none s t (ap (λ (z : Plain). z.output) (sym (same_Some (ended s p (exit_reason u)) t e)))
 act_prints s t p u (acts _) e = absurd (none-some t e)
 act_prints s t p u (begins m l) e = absurd (none-some t e)
 act_prints s t p u pure e = absurd (none-some t e)
@@ -190,9 +193,12 @@ label_prints code s t (move p) loads e =
 label_prints code s t (act p) loads e = option_and_then_some _ _ _ e (λ r living h. act_prints s t p r (next r) h)
 label_prints code s t signal loads e = absurd (none-some t e)
 label_prints code s t (advance c) loads e = absurd (none-some t e)
+label_prints code s t (skip who) loads e = absurd (none-some t e)
+label_prints code s t (kill who) loads e = absurd (none-some t e)
+label_prints code s t (expire who) loads e = absurd (none-some t e)
 label_prints code s t (load m k) loads e = absurd loads
 label_prints code s t (start m n args) loads e =
-    prints_none s t (ap (λ (z : Plain). z.output) (sym (cond_some (nat_lt (length s.processes) most_processes) _ t e).1))
+    prints_none s t (ap (λ (z : Plain). z.output) (sym (cond_some (nat_lt (length s.running) most_processes) _ t e).1))
 
 joined : (xs ys zs : List ℕ) → IsBeginning xs ys → IsBeginning ys zs → IsBeginning xs zs
 joined xs ys zs a b = (a.0 ++ b.0, sym (append_assoc xs a.0 b.0) ∙ (ap (λ (l : List ℕ). l ++ b.0) a.1 ∙ b.1))

@@ -2,8 +2,8 @@
 
 use Rattle.std.proofs.Common.{◌≡◌, ◌⊎◌, inl, inr, ℕ, zero, suc, List, refl}
 use Rattle.std.proofs.lemmas.Bool.{eq-eqb}
-use Rattle.edb_model.specs.declared.act.ActKind.{ActKind}
-use Rattle.edb_model.specs.declared.act.ActKind.TheVariants as kind
+use Rattle.edb_lang.specs.declared.act.ActKind.{ActKind}
+use Rattle.edb_lang.specs.declared.act.ActKind.TheVariants as kind
 use Rattle.edb_event.specs.declared.call.Call.{Call}
 use Rattle.edb_event.specs.declared.call.Call.TheVariants as call
 use Rattle.edb_event.specs.declared.call.ProcStatus.{ProcStatus}
@@ -62,6 +62,9 @@ reply_last plan f c x r may = reply_part (λ g. g.last) f c x r refl
 own_step : (plan : Plan) (f : Facts) (e : Entry) → Unit {0} → May plan f e → (note plan f e).own ≡ starts_with f.own e
 own_step plan f (entry.Start c p m n args) kept may = rw (eq-eqb c 1 may.rule.console) refl
 own_step plan f (entry.Load c m v) kept may = absurd may.rule
+own_step plan f (entry.Skip con who) kept may = absurd may.rule
+own_step plan f (entry.Kill con who) kept may = absurd may.rule
+own_step plan f (entry.Expire con who) kept may = absurd may.rule
 own_step plan f (entry.Lease p b) kept may = with_own f p _
 own_step plan f (entry.Ran p n c) kept may = with_own f p _
 own_step plan f (entry.Ask p k) kept may = absurd may.rule
@@ -79,6 +82,9 @@ own_step plan f (entry.Served c x r) kept may = reply_own f c x r
 last_step : (plan : Plan) (f : Facts) (e : Entry) → Unit {0} → May plan f e → (note plan f e).last ≡ last_with f.last e
 last_step plan f (entry.Start c p m n args) kept may = refl
 last_step plan f (entry.Load c m v) kept may = absurd may.rule
+last_step plan f (entry.Skip con who) kept may = absurd may.rule
+last_step plan f (entry.Kill con who) kept may = absurd may.rule
+last_step plan f (entry.Expire con who) kept may = absurd may.rule
 last_step plan f (entry.Lease p b) kept may = with_last f p _
 last_step plan f (entry.Ran p n c) kept may = with_last f p _
 last_step plan f (entry.Ask p k) kept may = absurd may.rule

@@ -6,7 +6,7 @@ use Rattle.std.proofs.lemmas.Option.{none-some, same_Some, cond_some, option_and
 use Rattle.edb_lang.specs.Syntax.{ModuleTree}
 use Rattle.edb_model.specs.Running.{Run}
 use Rattle.edb_model.specs.Move.{begins, next, is_move, moved}
-use Rattle.edb_model.specs.Plain.{Process, Plain, nobody, process_at, with_process}
+use Rattle.edb_model.specs.Plain.{Plain, running_at, with_running}
 use Rattle.edb_model.specs.Labels.{move, moved_in, step, steps}
 use Rattle.edb_event.specs.declared.entry.Cause.{Cause}
 use Rattle.edb_event.specs.declared.entry.Entry.{Entry}
@@ -22,37 +22,37 @@ use Rattle.edb_rules.proofs.Entries.{may_at, kept_at}
 use Rattle.edb_rules.proofs.Ends.{EndMeans, slice_means}
 
 -- n moves of a process lead to the expression after them
-process_here : (qs : List Process) (n : ℕ) (q : Process) (t : Run) → (slice_index_or qs n nobody).running ≡ Some t → slice_index_or (slice_set qs n q) n nobody ≡ q
+process_here : (qs : List (Option Run)) (n : ℕ) (q : Option Run) (t : Run) → (slice_index_or qs n None) ≡ Some t → slice_index_or (slice_set qs n q) n None ≡ q
 process_here [] n q t e = absurd (none-some t e)
 process_here (x ∷ xs) zero q t e = refl
 process_here (x ∷ xs) (suc n) q t e = process_here xs n q t e
 
-with_here : (s : Plain) (p : ℕ) (q : Process) (t : Run) → (process_at s p).running ≡ Some t → process_at (with_process s p q) p ≡ q
+with_here : (s : Plain) (p : ℕ) (q : Option Run) (t : Run) → (running_at s p) ≡ Some t → running_at (with_running s p q) p ≡ q
 with_here s zero q t e = absurd (none-some t e)
-with_here s (suc n) q t e = process_here s.processes n q t e
+with_here s (suc n) q t e = process_here s.running n q t e
 
-with_versions : (s : Plain) (p : ℕ) (q : Process) → (with_process s p q).versions ≡ s.versions
+with_versions : (s : Plain) (p : ℕ) (q : Option Run) → (with_running s p q).versions ≡ s.versions
 with_versions s zero q = refl
 with_versions s (suc n) q = refl
 
-move_reaches : (code : List ModuleTree) (s v : Plain) (p : ℕ) (t : Run) → (process_at s p).running ≡ Some t → step code s (move p) ≡ Some v
-    → (v.versions ≡ s.versions) × ((process_at v p).running ≡ Some (moved code s.versions t))
+move_reaches : (code : List ModuleTree) (s v : Plain) (p : ℕ) (t : Run) → (running_at s p) ≡ Some t → step code s (move p) ≡ Some v
+    → (v.versions ≡ s.versions) × ((running_at v p) ≡ Some (moved code s.versions t))
 move_reaches code s v p t lives e =
     option_and_then_some _ _ _ e (λ r living h.
     let same : r ≡ t = same_Some r t (sym living ∙ lives) in
     let was : moved_in code s p r ≡ v = (cond_some (is_move (next r)) _ _ h).1 in
     let is : moved_in code s p t ≡ v = subst (λ (x : Run). moved_in code s p x ≡ v) same was in (
-      ap (λ (x : Plain). x.versions) (sym is) ∙ with_versions s p _,
-      ap (λ (x : Plain). (process_at x p).running) (sym is) ∙ ap (λ (q : Process). q.running) (with_here s p _ t lives),
+      ap (λ (x : Plain). x.versions) (sym is) ∙ with_versions s p (Some (moved code s.versions t)),
+      ap (λ (x : Plain). (running_at x p)) (sym is) ∙ with_here s p (Some (moved code s.versions t)) t lives,
     ))
 
 first_move : (code : List ModuleTree) (versions : List (List ℕ × ℕ)) (n : ℕ) (t : Run) → after_moves code versions n (moved code versions t) ≡ moved code versions (after_moves code versions n t)
 first_move code versions zero t = refl
 first_move code versions (suc n) t = ap (moved code versions) (first_move code versions n t)
 
-moves_reach : (code : List ModuleTree) (s u : Plain) (p n : ℕ) (t : Run) → (process_at s p).running ≡ Some t → steps code s (replicate n (move p)) ≡ Some u
-    → (process_at u p).running ≡ Some (after_moves code s.versions n t)
-moves_reach code s u p zero t lives e = subst (λ (x : Plain). (process_at x p).running ≡ Some t) (same_Some s u e) lives
+moves_reach : (code : List ModuleTree) (s u : Plain) (p n : ℕ) (t : Run) → (running_at s p) ≡ Some t → steps code s (replicate n (move p)) ≡ Some u
+    → (running_at u p) ≡ Some (after_moves code s.versions n t)
+moves_reach code s u p zero t lives e = subst (λ (x : Plain). (running_at x p) ≡ Some t) (same_Some s u e) lives
 moves_reach code s u p (suc n) t lives e =
     option_and_then_some _ _ _ e (λ v first rest.
     let one = move_reaches code s v p t lives first in
@@ -68,11 +68,11 @@ abbrev AreThere : Plain → List Entry → Type 0
 AreThere s [] = Unit {0}
 AreThere s (e ∷ es) = IsThere s e × AreThere s es
 
-place : (s : Plain) (p : ℕ) (t : Run) → (process_at s p).running ≡ Some t → next t ≡ begins (place_of (next t)).0 (place_of (next t)).1
+place : (s : Plain) (p : ℕ) (t : Run) → (running_at s p) ≡ Some t → next t ≡ begins (place_of (next t)).0 (place_of (next t)).1
     → StandsBefore s p (place_of (next t)).0 (place_of (next t)).1
 place s p t lives is = record { running = t; lives = lives; at = is }
 
-ends_there : (s : Plain) (p : ℕ) (t : Run) (end : SliceEnd) → (process_at s p).running ≡ Some t
+ends_there : (s : Plain) (p : ℕ) (t : Run) (end : SliceEnd) → (running_at s p) ≡ Some t
     → EndMeans (λ b. next t ≡ begins (place_of (next t)).0 (place_of (next t)).1) (Some end) → AreThere s (end_entries p t end)
 ends_there s p t leaves lives d = (tt, tt)
 ends_there s p t act_next lives d = tt
@@ -83,10 +83,10 @@ ends_there s p t spent lives d = tt
 
 -- what a process has to do behind its slice
 pub ran_lives : (plan : Plan) (f : Facts) (p n c : ℕ) (may : May plan f (entry.Ran p n c))
-    → (process_at (note plan f (entry.Ran p n c)).plain p).running ≡ Some (after_moves plan.code f.plain.versions n may.rule.running)
+    → (running_at (note plan f (entry.Ran p n c)).plain p) ≡ Some (after_moves plan.code f.plain.versions n may.rule.running)
 ran_lives plan f p n c may =
     let is : (note plan f (entry.Ran p n c)).plain ≡ may.plain = ap (λ (o : Option Plain). unwrap_or o f.plain) may.enabled in
-    ap (λ (s : Plain). (process_at s p).running) is ∙ moves_reach plan.code f.plain may.plain p n may.rule.running may.rule.lives may.enabled
+    ap (λ (s : Plain). (running_at s p)) is ∙ moves_reach plan.code f.plain may.plain p n may.rule.running may.rule.lives may.enabled
 
 ran_there : (plan : Plan) (f : Facts) (p n c : ℕ) → May plan f (entry.Ran p n c) → AreThere (note plan f (entry.Ran p n c)).plain (coming_after plan f p n)
 ran_there plan f p n c may =
@@ -107,6 +107,9 @@ rest_there s es e rest is d =
 there_step : (plan : Plan) (f : Facts) (e : Entry) → AreThere f.plain f.coming → May plan f e → AreThere (note plan f e).plain (note plan f e).coming
 there_step plan f (entry.Start c p m n args) d may = none_there _ _ may.rule.call.whole
 there_step plan f (entry.Load c m v) d may = absurd may.rule
+there_step plan f (entry.Skip con who) d may = absurd may.rule
+there_step plan f (entry.Kill con who) d may = absurd may.rule
+there_step plan f (entry.Expire con who) d may = absurd may.rule
 there_step plan f (entry.Lease p b) d may = none_there _ _ (with_coming f p _ ∙ may.rule.turn.call.whole)
 there_step plan f (entry.Ran p n c) d may = ran_there plan f p n c may
 there_step plan f (entry.Ask p k) d may = absurd may.rule

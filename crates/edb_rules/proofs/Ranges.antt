@@ -6,8 +6,8 @@ use Rattle.std.specs.List.{All}
 use Rattle.std.specs.Option.{option_map}
 use Rattle.std.proofs.lemmas.List.Elements.{All-nil, All-push}
 use Rattle.edb_lang.specs.declared.small.Break.{Break}
-use Rattle.edb_model.specs.declared.act.ActKind.{ActKind}
-use Rattle.edb_model.specs.declared.act.ActKind.TheVariants as kind
+use Rattle.edb_lang.specs.declared.act.ActKind.{ActKind}
+use Rattle.edb_lang.specs.declared.act.ActKind.TheVariants as kind
 use Rattle.edb_model.specs.declared.tables.NameRow.{NameRow}
 use Rattle.edb_model.specs.Running.{Info, Run}
 use Rattle.edb_event.specs.declared.call.Call.{Call}
@@ -22,6 +22,7 @@ use Rattle.edb_event.specs.declared.entry.Entry.{Entry}
 use Rattle.edb_event.specs.declared.entry.Entry.TheVariants as entry
 use Rattle.edb_event.specs.Ranges.{IsConsole, IsShort, IsNumber, IsCall, IsEntry, AreEntries, IsWord, IsCommand, AreCommands}
 use Rattle.edb_rules.specs.Plans.{Plan}
+use Rattle.edb_rules.proofs.Refusals.{is_reply}
 use Rattle.edb_rules.specs.Facts.{Debugged, Owed, Facts, at_first, with_debugged}
 use Rattle.edb_rules.specs.Slices.{SliceEnd, leaves, act_next, enters, stops, spent, after_moves}
 use Rattle.edb_model.specs.Innermost.{innermost}
@@ -109,12 +110,12 @@ stop_owes f p m l (cause.Break serial) bounded = mapped_short _ _ (λ b. bounded
 named_in_range : (x : List ℕ) (rows : List NameRow) → rows ≡ [] → IsNumber (named_process x rows)
 named_in_range x rows none = subst (λ (rs : List NameRow). IsNumber (named_process x rs)) (sym none) (let least : IsNumber 0 = omega arith in least)
 
-word_in_range : (f : Facts) (w : Word) → f.plain.names ≡ [] → Ranged f → IsWord w → IsNumber (process_of f w)
+word_in_range : (f : Facts) (w : Word) → f.plain.procs.names ≡ [] → Ranged f → IsWord w → IsNumber (process_of f w)
 word_in_range f word.Absent none r is = omega arith
 word_in_range f (word.Number n) none r is = is
 word_in_range f (word.Own zero) none r is = omega arith
 word_in_range f (word.Own (suc k)) none r is = each_or IsNumber f.own 0 (omega arith) r.own k
-word_in_range f (word.Named x) none r is = named_in_range x f.plain.names none
+word_in_range f (word.Named x) none r is = named_in_range x f.plain.procs.names none
 word_in_range f word.Last none r is = r.last
 
 about_in_range : (x : Call) (p : ℕ) → IsCall x → IsNumber p → IsCall (about x p)
@@ -124,13 +125,16 @@ about_in_range (call.Step q) p is number = number
 about_in_range (call.Next q) p is number = number
 about_in_range (call.Finish q) p is number = number
 about_in_range (call.Halt q) p is number = number
+about_in_range (call.Skip q) p is number = is
+about_in_range (call.Kill q) p is number = is
+about_in_range (call.Timeout q) p is number = is
 about_in_range (call.Continue q) p is number = number
 about_in_range (call.Bindings q) p is number = number
 about_in_range (call.Frames q) p is number = number
 about_in_range (call.Await q s) p is number = number
 about_in_range _ p is number = is
 
-next_in_range : (plan : Plan) (f : Facts) (x : Call) → AreCommands plan.commands → f.plain.names ≡ [] → Ranged f → next_call plan f ≡ Some x → IsCall x
+next_in_range : (plan : Plan) (f : Facts) (x : Call) → AreCommands plan.commands → f.plain.procs.names ≡ [] → Ranged f → next_call plan f ≡ Some x → IsCall x
 next_in_range plan f x are none r e =
     let at = next_stands plan f x e in
     let command : IsCommand at.command = command_is plan.commands f.served at.command are at.stands in
@@ -158,7 +162,7 @@ did_as plan f p _ v bytes = record { owed = refl; own = refl; last = refl }
 -- What holds of the facts of a legal journal.
 record Holds (f : Facts) : Type 0 where
   pub parts : Ranged f
-  pub names : f.plain.names ≡ []
+  pub names : f.plain.procs.names ≡ []
   pub run : AllRun f.plain
 
 ranged_step : (plan : Plan) → AreBounded plan.code → AreCommands plan.commands → (f : Facts) (e : Entry) → Holds f → May plan f e → Ranged (note plan f e)
@@ -169,6 +173,9 @@ ranged_step plan bounded are f (entry.Start c p m n args) h may = record {
   last = h.parts.last;
 }
 ranged_step plan bounded are f (entry.Load c m v) h may = absurd may.rule
+ranged_step plan bounded are f (entry.Skip con who) h may = absurd may.rule
+ranged_step plan bounded are f (entry.Kill con who) h may = absurd may.rule
+ranged_step plan bounded are f (entry.Expire con who) h may = absurd may.rule
 ranged_step plan bounded are f (entry.Lease p b) h may =
     ranged f _ (note plan f (entry.Lease p b)) (with_as f p _) (none_to_come _ (with_coming f p _ ∙ may.rule.turn.call.whole)) refl refl refl h.parts
 ranged_step plan bounded are f (entry.Ran p n c) h may =
@@ -201,7 +208,7 @@ ranged_step plan bounded are f (entry.Served c x r) h may =
 holds_step : (plan : Plan) → AreBounded plan.code → AreCommands plan.commands → (f : Facts) (e : Entry) → Holds f → May plan f e → Holds (note plan f e)
 holds_step plan bounded are f e h may = record {
   parts = ranged_step plan bounded are f e h may;
-  names = (note_stays plan f e may).names ∙ h.names;
+  names = (note_stays plan f e may).names h.names;
   run = note_runs plan f e bounded h.run may;
 }
 
@@ -213,11 +220,18 @@ entry_is : (plan : Plan) (f : Facts) (e : Entry) → AreCommands plan.commands �
 entry_is plan f (entry.Start c p m n args) are h may =
     (console_one c may.rule.console, next_in_range plan f (call.Start m n args) are h.names h.parts may.rule.next)
 entry_is plan f (entry.Load c m v) are h may = absurd may.rule
+entry_is plan f (entry.Skip con who) are h may = absurd may.rule
+entry_is plan f (entry.Kill con who) are h may = absurd may.rule
+entry_is plan f (entry.Expire con who) are h may = absurd may.rule
 entry_is plan f (entry.Enter p m n a) are h may = first_to_come f.coming (entry.Enter p m n a) may.rule.0 may.rule.1 h.parts.coming
 entry_is plan f (entry.Stop p m l n by) are h may = first_to_come f.coming (entry.Stop p m l n by) may.rule.0 may.rule.1 h.parts.coming
 entry_is plan f (entry.Trigger p m l s a applied) are h may = subst OwesShort may.rule.owed h.parts.owed
-entry_is plan f (entry.Served c x r) are h may =
-    (console_one c may.rule.console, next_in_range plan f x are h.names h.parts may.rule.next, may.rule.served)
+entry_is plan f (entry.Served c x r) are h may = (
+  console_one c may.rule.console,
+  next_in_range plan f x are h.names h.parts may.rule.next,
+  may.rule.served,
+  is_reply plan f c x r may.rule.answer,
+)
 entry_is plan f _ are h may = tt
 
 first_holds : (plan : Plan) → Holds (at_first plan)

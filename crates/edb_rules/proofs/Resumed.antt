@@ -5,8 +5,8 @@ use Rattle.std.specs.List.{All, slice_get}
 use Rattle.std.proofs.lemmas.List.Elements.{All-nil, All-push}
 use Rattle.std.proofs.lemmas.Bool.{and_parts, both_ways}
 use Rattle.edb_lang.specs.declared.small.Break.{Break}
-use Rattle.edb_model.specs.declared.act.ActKind.{ActKind}
-use Rattle.edb_model.specs.declared.act.ActKind.TheVariants as kind
+use Rattle.edb_lang.specs.declared.act.ActKind.{ActKind}
+use Rattle.edb_lang.specs.declared.act.ActKind.TheVariants as kind
 use Rattle.edb_model.specs.Running.{Run}
 use Rattle.edb_event.specs.declared.entry.Cause.{Cause}
 use Rattle.edb_event.specs.declared.entry.Entry.{Entry}
@@ -131,6 +131,9 @@ keeps_step : (plan : Plan) (f : Facts) (e : Entry) → Keeps f → May plan f e 
 keeps_step plan f (entry.Start c p m n args) a may =
     record { told = All-push IsTold f.debugged unseen a.told (λ o. refl); fresh = none_fresh (note plan f (entry.Start c p m n args)) may.rule.call.whole }
 keeps_step plan f (entry.Load c m v) a may = absurd may.rule
+keeps_step plan f (entry.Skip con who) a may = absurd may.rule
+keeps_step plan f (entry.Kill con who) a may = absurd may.rule
+keeps_step plan f (entry.Expire con who) a may = absurd may.rule
 keeps_step plan f (entry.Lease p b) a may =
     record { told = told_with f p _ (λ o. refl) a.told; fresh = none_fresh (note plan f (entry.Lease p b)) (with_coming f p _ ∙ may.rule.turn.call.whole) }
 keeps_step plan f (entry.Ran p n c) a may =

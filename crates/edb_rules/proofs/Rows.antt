@@ -14,8 +14,8 @@ use Rattle.edb_lang.specs.declared.small.BreakRow.{BreakRow}
 use Rattle.edb_lang.specs.declared.small.Status.{Status}
 use Rattle.edb_lang.specs.declared.small.Status.TheVariants.{Active, Inactive}
 use Rattle.edb_breaks.specs.Table.{Table, is_at, row_at, new_row, with_row, is_row, has_row, enabled_row, with_enabled}
-use Rattle.edb_model.specs.declared.act.ActKind.{ActKind}
-use Rattle.edb_model.specs.declared.act.ActKind.TheVariants as kind
+use Rattle.edb_lang.specs.declared.act.ActKind.{ActKind}
+use Rattle.edb_lang.specs.declared.act.ActKind.TheVariants as kind
 use Rattle.edb_event.specs.declared.call.Call.{Call}
 use Rattle.edb_event.specs.declared.call.Call.TheVariants as call
 use Rattle.edb_event.specs.declared.reply.Reply.{Reply}
@@ -154,6 +154,9 @@ known_step plan f (entry.Start c p m n args) a may =
     let g = note plan f (entry.Start c p m n args) in
     same_known f g refl (λ q. ap (λ (d : Debugged). d.taken) (start_same f g refl q)) a
 known_step plan f (entry.Load c m v) a may = absurd may.rule
+known_step plan f (entry.Skip con who) a may = absurd may.rule
+known_step plan f (entry.Kill con who) a may = absurd may.rule
+known_step plan f (entry.Expire con who) a may = absurd may.rule
 known_step plan f (entry.Lease p b) a may =
     leased_known f (note plan f (entry.Lease p b)) p _ (with_server f p _) refl (with_or f p _) a
 known_step plan f (entry.Ran p n c) a may = same_known f (note plan f (entry.Ran p n c)) (with_server f p _) (with_taken f p _ refl) a

@@ -3,8 +3,8 @@
 use Rattle.std.proofs.Common.{◌≡◌, ℕ, zero, suc, Bool, true, false, not, ◌&&◌, nat_eq, List, [], ◌∷◌, slice_index_or, slice_set, if◌then◌else◌, refl, sym, ◌∙◌, ap}
 use Rattle.std.proofs.lemmas.Bool.{both_ways}
 use Rattle.std.specs.List.{fold}
-use Rattle.edb_model.specs.declared.act.ActKind.{ActKind}
-use Rattle.edb_model.specs.declared.act.ActKind.TheVariants as kind
+use Rattle.edb_lang.specs.declared.act.ActKind.{ActKind}
+use Rattle.edb_lang.specs.declared.act.ActKind.TheVariants as kind
 use Rattle.edb_event.specs.declared.call.Call.{Call}
 use Rattle.edb_event.specs.declared.call.Call.TheVariants as call
 use Rattle.edb_event.specs.declared.reply.Reply.{Reply}
@@ -63,6 +63,9 @@ stopped_step : (plan : Plan) (p : ℕ) (f : Facts) (e : Entry) → Rests f → M
     → (debugged_at (note plan f e) p).stopped ≡ stopped_with p (debugged_at f p).stopped e
 stopped_step plan p f (entry.Start c q m n args) rests may = ap (λ (d : Debugged). d.stopped) (start_same f (note plan f (entry.Start c q m n args)) refl p)
 stopped_step plan p f (entry.Load c m v) rests may = absurd may.rule
+stopped_step plan p f (entry.Skip con who) rests may = absurd may.rule
+stopped_step plan p f (entry.Kill con who) rests may = absurd may.rule
+stopped_step plan p f (entry.Expire con who) rests may = absurd may.rule
 stopped_step plan p f (entry.Lease q b) rests may = with_same Bool (λ d. d.stopped) f q _ refl p
 stopped_step plan p f (entry.Ran q n c) rests may = with_same Bool (λ d. d.stopped) f q _ refl p
 stopped_step plan p f (entry.Ask q k) rests may = absurd may.rule

@@ -5,11 +5,11 @@ use Rattle.std.specs.List.{slice_get}
 use Rattle.std.proofs.lemmas.Bool.{and_parts, both_ways}
 use Rattle.std.proofs.lemmas.Option.{none-some}
 use Rattle.edb_lang.specs.declared.small.Break.{Break}
-use Rattle.edb_model.specs.declared.act.ActKind.{ActKind}
-use Rattle.edb_model.specs.declared.act.ActKind.TheVariants as kind
+use Rattle.edb_lang.specs.declared.act.ActKind.{ActKind}
+use Rattle.edb_lang.specs.declared.act.ActKind.TheVariants as kind
 use Rattle.edb_model.specs.Running.{Run}
 use Rattle.edb_model.specs.Move.{Next, begins, next}
-use Rattle.edb_model.specs.Plain.{process_at}
+use Rattle.edb_model.specs.Plain.{running_at}
 use Rattle.edb_event.specs.declared.entry.Cause.{Cause}
 use Rattle.edb_event.specs.declared.entry.Entry.{Entry}
 use Rattle.edb_event.specs.declared.entry.Entry.TheVariants as entry
@@ -53,7 +53,7 @@ ends_are_due f p t (stops b) d = (d, tt)
 ends_are_due f p t spent d = tt
 
 -- what stands behind a slice is what its end says
-pub coming_is : (plan : Plan) (f : Facts) (p n : ℕ) (t : Run) (end : SliceEnd) → (process_at f.plain p).running ≡ Some t
+pub coming_is : (plan : Plan) (f : Facts) (p n : ℕ) (t : Run) (end : SliceEnd) → (running_at f.plain p) ≡ Some t
     → end_at (debugged_at f p).taken (debugged_at f p).meta n (after_moves plan.code f.plain.versions n t) ≡ Some end
     → coming_after plan f p n ≡ end_entries p (after_moves plan.code f.plain.versions n t) end
 coming_is plan f p n t end lives ends = rw lives (rw ends refl)
@@ -111,6 +111,9 @@ did_coming plan f p _ v bytes = refl
 due_step : (plan : Plan) (f : Facts) (e : Entry) → AreDue f f.coming → May plan f e → AreDue (note plan f e) (note plan f e).coming
 due_step plan f (entry.Start c p m n args) d may = none_coming (note plan f (entry.Start c p m n args)) may.rule.call.whole
 due_step plan f (entry.Load c m v) d may = absurd may.rule
+due_step plan f (entry.Skip con who) d may = absurd may.rule
+due_step plan f (entry.Kill con who) d may = absurd may.rule
+due_step plan f (entry.Expire con who) d may = absurd may.rule
 due_step plan f (entry.Lease p b) d may = none_coming (note plan f (entry.Lease p b)) (with_coming f p _ ∙ may.rule.turn.call.whole)
 due_step plan f (entry.Ran p n c) d may = ran_due plan f (note plan f (entry.Ran p n c)) p n c may.rule (with_taken f p _ refl)
 due_step plan f (entry.Ask p k) d may = absurd may.rule

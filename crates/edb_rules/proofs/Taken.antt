@@ -5,8 +5,8 @@ use Rattle.std.specs.List.{slice_get}
 use Rattle.std.proofs.lemmas.Bool.{both_ways, le-leb, leb-false}
 use Rattle.std.proofs.lemmas.Option.{none-some, same_Some, slice_get_within}
 use Rattle.edb_lang.specs.declared.small.Break.{Break}
-use Rattle.edb_model.specs.declared.act.ActKind.{ActKind}
-use Rattle.edb_model.specs.declared.act.ActKind.TheVariants as kind
+use Rattle.edb_lang.specs.declared.act.ActKind.{ActKind}
+use Rattle.edb_lang.specs.declared.act.ActKind.TheVariants as kind
 use Rattle.edb_model.specs.Running.{Run}
 use Rattle.edb_model.specs.Move.{Next, begins, acts, pure, next}
 use Rattle.edb_event.specs.declared.call.Call.{Call}
@@ -68,6 +68,9 @@ other_lease f g q p d (inr same) not = holds_same _ _ same
 holds_step : (plan : Plan) (p : ℕ) (f : Facts) (e : Entry) → (IsLeaseOf p e → ⊥) → May plan f e → Holds (debugged_at (note plan f e) p) (debugged_at f p)
 holds_step plan p f (entry.Start c q m n args) not may = holds_same _ _ (start_same f (note plan f (entry.Start c q m n args)) refl p)
 holds_step plan p f (entry.Load c m v) not may = absurd may.rule
+holds_step plan p f (entry.Skip con who) not may = absurd may.rule
+holds_step plan p f (entry.Kill con who) not may = absurd may.rule
+holds_step plan p f (entry.Expire con who) not may = absurd may.rule
 holds_step plan p f (entry.Lease q b) not may = other_lease f (note plan f (entry.Lease q b)) q p _ (with_or f q _ p) not
 holds_step plan p f (entry.Ran q n c) not may = holds_with f q _ p (refl, λ free. refl)
 holds_step plan p f (entry.Ask q k) not may = absurd may.rule

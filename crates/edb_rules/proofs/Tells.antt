@@ -4,7 +4,7 @@ use Rattle.std.proofs.Common.{◌≡◌, ℕ, List, [], ◌∷◌, None, Some, t
 use Rattle.std.specs.List.{slice_get}
 use Rattle.edb_lang.specs.declared.small.Break.{Break}
 use Rattle.edb_model.specs.Running.{Run}
-use Rattle.edb_model.specs.Plain.{Plain, process_at}
+use Rattle.edb_model.specs.Plain.{Plain, running_at}
 use Rattle.edb_event.specs.declared.entry.Cause.{Cause}
 use Rattle.edb_event.specs.declared.entry.Entry.{Entry}
 use Rattle.edb_event.specs.declared.entry.Entry.TheVariants as entry
@@ -21,7 +21,7 @@ use Rattle.edb_rules.proofs.Places.{ran_lives}
 -- the process has more to do
 pub record Lives (s : Plain) (p : ℕ) : Type 0 where
   pub running : Run
-  pub lives : (process_at s p).running ≡ Some running
+  pub lives : (running_at s p) ≡ Some running
 
 -- what an entry to come tells is so
 abbrev pub IsTold : Plain → Entry → Type 0
@@ -34,13 +34,13 @@ abbrev pub AreTold : Plain → List Entry → Type 0
 AreTold s [] = Unit {0}
 AreTold s (e ∷ es) = IsTold s e × AreTold s es
 
-level_told : (s : Plain) (p : ℕ) (t : Run) (b : Break) → (process_at s p).running ≡ Some t → IsTold s (stop_entry p t b)
+level_told : (s : Plain) (p : ℕ) (t : Run) (b : Break) → (running_at s p) ≡ Some t → IsTold s (stop_entry p t b)
 level_told s p t b lives = record { running = t; lives = lives; same = refl }
 
-call_told : (s : Plain) (p : ℕ) (t : Run) → (process_at s p).running ≡ Some t → IsTold s (enter_entry p t)
+call_told : (s : Plain) (p : ℕ) (t : Run) → (running_at s p) ≡ Some t → IsTold s (enter_entry p t)
 call_told s p t lives = record { running = t; lives = lives; home = refl; name = refl; arity = refl }
 
-ends_told : (s : Plain) (p : ℕ) (t : Run) (end : SliceEnd) → (process_at s p).running ≡ Some t → AreTold s (end_entries p t end)
+ends_told : (s : Plain) (p : ℕ) (t : Run) (end : SliceEnd) → (running_at s p) ≡ Some t → AreTold s (end_entries p t end)
 ends_told s p t leaves lives = (record { running = t; lives = lives }, tt)
 ends_told s p t act_next lives = tt
 ends_told s p t (enters None) lives = (call_told s p t lives, tt)
@@ -68,6 +68,9 @@ rest_told s es e rest is told =
 pub told_step : (plan : Plan) (f : Facts) (e : Entry) → AreTold f.plain f.coming → May plan f e → AreTold (note plan f e).plain (note plan f e).coming
 told_step plan f (entry.Start c p m n args) told may = none_told _ _ may.rule.call.whole
 told_step plan f (entry.Load c m v) told may = absurd may.rule
+told_step plan f (entry.Skip con who) told may = absurd may.rule
+told_step plan f (entry.Kill con who) told may = absurd may.rule
+told_step plan f (entry.Expire con who) told may = absurd may.rule
 told_step plan f (entry.Lease p b) told may = none_told _ _ (with_coming f p _ ∙ may.rule.turn.call.whole)
 told_step plan f (entry.Ran p n c) told may = ran_told plan f p n c may
 told_step plan f (entry.Ask p k) told may = absurd may.rule

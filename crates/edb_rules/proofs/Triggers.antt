@@ -39,6 +39,9 @@ its_trigger : (plan : Plan) (g : Facts) (p : ℕ) (m : List ℕ) (l serial : ℕ
     → e ≡ entry.Trigger p m l serial action.Enable true
 its_trigger plan g p m l serial (entry.Start c q h n args) is may = absurd (none-some _ (sym may.rule.no_trigger ∙ is.owed))
 its_trigger plan g p m l serial (entry.Load c h v) is may = absurd may.rule
+its_trigger plan g p m l serial (entry.Skip con who) is may = absurd may.rule
+its_trigger plan g p m l serial (entry.Kill con who) is may = absurd may.rule
+its_trigger plan g p m l serial (entry.Expire con who) is may = absurd may.rule
 its_trigger plan g p m l serial (entry.Lease q b) is may = absurd (none-some _ (sym may.rule.turn.no_trigger ∙ is.owed))
 its_trigger plan g p m l serial (entry.Ran q n c) is may = absurd (both_ways _ (is.free q) may.rule.out)
 its_trigger plan g p m l serial (entry.Ask q k) is may = absurd may.rule

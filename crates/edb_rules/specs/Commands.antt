@@ -16,6 +16,9 @@ use Rattle.edb_rules.specs.Replies.{about, process_of}
 abbrev pub command_of : Entry → Option (ℕ × Call)
 command_of (entry.Start c p m n args) = Some (c, command.Start m n args)
 command_of (entry.Load c m v) = Some (c, command.Load m v)
+command_of (entry.Skip c p) = Some (c, command.Skip p)
+command_of (entry.Kill c p) = Some (c, command.Kill p)
+command_of (entry.Expire c p) = Some (c, command.Timeout p)
 command_of (entry.Served c x r) = Some (c, x)
 command_of _ = None
 

@@ -6,12 +6,12 @@ use Rattle.edb_lang.specs.Terms.{Datum}
 use Rattle.edb_lang.specs.Terms as term
 use Rattle.edb_lang.specs.TermText.{term_text}
 use Rattle.edb_breaks.specs.Table.{has_row}
-use Rattle.edb_model.specs.declared.act.ActKind.{ActKind}
-use Rattle.edb_model.specs.declared.act.ActKind.TheVariants as kind
+use Rattle.edb_lang.specs.declared.act.ActKind.{ActKind}
+use Rattle.edb_lang.specs.declared.act.ActKind.TheVariants as kind
 use Rattle.edb_model.specs.Running.{Run}
 use Rattle.edb_model.specs.Move.{acts, next, is_move, redex}
 use Rattle.edb_model.specs.Acts.{exit_reason, displayed, true_term}
-use Rattle.edb_model.specs.Plain.{Plain, process_at}
+use Rattle.edb_model.specs.Plain.{Plain, running_at}
 use Rattle.edb_model.specs.Labels.{steps, most_processes}
 use Rattle.edb_event.specs.declared.call.Call.{Call}
 use Rattle.edb_event.specs.declared.call.Call.TheVariants as command
@@ -20,7 +20,7 @@ use Rattle.edb_event.specs.declared.reply.Reply.TheVariants as reply
 use Rattle.edb_event.specs.declared.entry.Entry.{Entry}
 use Rattle.edb_event.specs.declared.entry.Entry.TheVariants as entry
 use Rattle.edb_event.specs.Ranges.{MayAnswer}
-use Rattle.edb_event.specs.Erasure.{labels_of}
+use Rattle.edb_rules.specs.Erasure.{labels_of}
 use Rattle.edb_rules.specs.Plans.{Plan}
 use Rattle.edb_rules.specs.Facts.{Facts, at_first, debugged_at}
 use Rattle.edb_rules.specs.Slices.{SliceEnd, IsSlice}
@@ -43,7 +43,7 @@ NoCommand plan f = IfSome (next_call plan f) (λ x. is_enabled f x ≡ false)
 -- a process may be given a turn: it has more to do, isn't stopped, and no lease of it is out
 pub record IsReady (f : Facts) (p : ℕ) : Type 0 where
   pub running : Run
-  pub lives : (process_at f.plain p).running ≡ Some running
+  pub lives : (running_at f.plain p) ≡ Some running
   pub goes : (debugged_at f p).stopped ≡ false
   pub free : (debugged_at f p).out ≡ false
 
@@ -77,8 +77,8 @@ pub record MayStart (plan : Plan) (f : Facts) (c p : ℕ) (m n : List ℕ) (args
   pub no_trigger : NoTrigger f
   pub console : c ≡ 1
   pub next : next_call plan f ≡ Some (command.Start m n args)
-  pub number : p ≡ length f.plain.processes + 1
-  pub few : length f.plain.processes < most_processes
+  pub number : p ≡ length f.plain.running + 1
+  pub few : length f.plain.running < most_processes
 
 -- A command's answer: where it is enabled, the reply; an await that isn't is answered `quiet` where nothing else can
 -- come.
@@ -109,7 +109,7 @@ pub record MayRun (plan : Plan) (f : Facts) (p moves conditions : ℕ) : Type 0 
   pub call : MayBegin plan f
   pub out : (debugged_at f p).out ≡ true
   pub running : Run
-  pub lives : (process_at f.plain p).running ≡ Some running
+  pub lives : (running_at f.plain p) ≡ Some running
   pub end : SliceEnd
   pub slice : IsSlice plan.code f.plain.versions (debugged_at f p).taken (debugged_at f p).meta running moves end
   pub unasked : conditions ≡ 0
@@ -141,10 +141,14 @@ pub record MayTrigger (plan : Plan) (f : Facts) (p : ℕ) (m : List ℕ) (l seri
   pub owed : f.owed ≡ Some (record { process = p; home = m; line = l; serial = serial; action = a })
   pub done : applied ≡ has_row serial m l f.server.table
 
--- The rule of each kind of entry. Acts of pairs, signals, the clock and loads don't come yet.
+-- The rule of each kind of entry. Acts of pairs, signals, the clock and loads don't come yet, nor does what a console
+-- does to a run by `skip`, `kill` and `timeout`.
 abbrev pub Rule : Plan → Facts → Entry → Type 0
 Rule plan f (entry.Start c p m n args) = MayStart plan f c p m n args
 Rule plan f (entry.Load c m v) = ⊥
+Rule plan f (entry.Skip c p) = ⊥
+Rule plan f (entry.Kill c p) = ⊥
+Rule plan f (entry.Expire c p) = ⊥
 Rule plan f (entry.Lease p b) = MayLease plan f p b
 Rule plan f (entry.Ran p n c) = MayRun plan f p n c
 Rule plan f (entry.Ask p k) = ⊥

@@ -1,3 +1,4 @@
+pub mod Erasure
 pub mod Plans
 pub mod Facts
 pub mod Slices

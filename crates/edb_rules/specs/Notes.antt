@@ -6,17 +6,17 @@ use Rattle.edb_lang.specs.declared.small.Action.{Action}
 use Rattle.edb_lang.specs.declared.small.Action.TheVariants as action
 use Rattle.edb_breaks.specs.Table.{Table, row_at, with_enabled}
 use Rattle.std.specs.Option.{option_map}
-use Rattle.edb_model.specs.declared.act.ActKind.TheVariants as kind
+use Rattle.edb_lang.specs.declared.act.ActKind.TheVariants as kind
 use Rattle.edb_model.specs.Running.{Info, Run}
 use Rattle.edb_model.specs.Move.{Next, begins, acts, pure, next}
-use Rattle.edb_model.specs.Plain.{process_at}
+use Rattle.edb_model.specs.Plain.{running_at}
 use Rattle.edb_model.specs.Labels.{steps}
 use Rattle.edb_event.specs.declared.entry.Cause.{Cause}
 use Rattle.edb_event.specs.declared.entry.Cause.TheVariants as cause
 use Rattle.edb_event.specs.declared.entry.Entry.{Entry}
 use Rattle.edb_event.specs.declared.entry.Entry.TheVariants as entry
 use Rattle.edb_event.specs.Weights.{weight_of}
-use Rattle.edb_event.specs.Erasure.{labels_of}
+use Rattle.edb_rules.specs.Erasure.{labels_of}
 use Rattle.edb_rules.specs.Plans.{Plan}
 use Rattle.edb_rules.specs.Facts.{Owed, Facts, at_first, unseen, debugged_at, with_debugged}
 use Rattle.edb_rules.specs.Slices.{SliceEnd, leaves, act_next, enters, stops, spent, end_at, after_moves}
@@ -50,7 +50,7 @@ end_entries p t spent = []
 
 -- the entries that have to stand behind a slice of n moves of process p
 abbrev pub coming_after : Plan → Facts → ℕ → ℕ → List Entry
-coming_after plan f p n = of_running (process_at f.plain p).running
+coming_after plan f p n = of_running (running_at f.plain p)
   where
     of_end : Run → Option SliceEnd → List Entry
     of_end t None = []
@@ -85,6 +85,9 @@ behind (e ∷ es) = es
 abbrev pub kept_by : Plan → Facts → Entry → Facts
 kept_by plan f (entry.Start c p m n args) = record f { served = f.served + 1; own = f.own ++ p ∷ []; debugged = f.debugged ++ unseen ∷ [] }
 kept_by plan f (entry.Load c m v) = record f { served = f.served + 1 }
+kept_by plan f (entry.Skip c p) = record f { served = f.served + 1 }
+kept_by plan f (entry.Kill c p) = record f { served = f.served + 1 }
+kept_by plan f (entry.Expire c p) = record f { served = f.served + 1 }
 kept_by plan f (entry.Lease p b) =
     record (with_debugged f p (record (debugged_at f p) { taken = record { budget = b; table = f.server.table; interpreted = f.server.interpreted; resumed = (debugged_at f p).resumed }; out = true })) { turn = p }
 kept_by plan f (entry.Ran p n c) =

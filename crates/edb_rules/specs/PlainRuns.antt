@@ -4,7 +4,7 @@ use Rattle.std.specs.Prelude.{◌≡◌, ◌⊎◌, ℕ, List, [], ◌∷◌}
 use Rattle.edb_lang.specs.Terms.{Datum}
 use Rattle.edb_model.specs.Labels.{Label, start}
 use Rattle.edb_event.specs.declared.entry.Entry.{Entry}
-use Rattle.edb_event.specs.Erasure.{erase}
+use Rattle.edb_rules.specs.Erasure.{erase}
 
 -- the starts of a run, in their order
 abbrev pub starts_in : List Label → List Label

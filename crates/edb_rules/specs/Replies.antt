@@ -9,7 +9,7 @@ use Rattle.edb_lang.specs.Syntax.{ModuleTree}
 use Rattle.edb_breaks.specs.Table.{row_at, with_row}
 use Rattle.edb_model.specs.declared.tables.NameRow.{NameRow}
 use Rattle.edb_model.specs.Running.{Info, Run}
-use Rattle.edb_model.specs.Plain.{process_at}
+use Rattle.edb_model.specs.Plain.{running_at}
 use Rattle.edb_model.specs.Labels.{most_processes}
 use Rattle.edb_event.specs.declared.call.Call.{Call}
 use Rattle.edb_event.specs.declared.call.Call.TheVariants as call
@@ -28,10 +28,10 @@ use Rattle.edb_model.specs.Innermost.{innermost}
 
 -- Processes are numbered from 1 in the order of their making.
 abbrev pub is_made : Facts → ℕ → Bool
-is_made f p = nat_le 1 p && nat_le p (length f.plain.processes)
+is_made f p = nat_le 1 p && nat_le p (length f.plain.running)
 
 abbrev pub is_ended : Facts → ℕ → Bool
-is_ended f p = is_none (process_at f.plain p).running
+is_ended f p = is_none (running_at f.plain p)
 
 -- The status of a process: `exit` where it has ended, `break` where it is stopped, `running` where it has a meta,
 -- else `idle`. None waits for a message yet.
@@ -65,7 +65,7 @@ process_of f word.Absent = 0
 process_of f (word.Number n) = n
 process_of f (word.Own zero) = 0
 process_of f (word.Own (suc k)) = slice_index_or f.own k 0
-process_of f (word.Named x) = named_process x f.plain.names
+process_of f (word.Named x) = named_process x f.plain.procs.names
 process_of f word.Last = f.last
 
 -- a command about this process
@@ -77,6 +77,9 @@ about (call.Next q) p = call.Next p
 about (call.Finish q) p = call.Finish p
 about (call.Halt q) p = call.Halt p
 about (call.Continue q) p = call.Continue p
+about (call.Skip q) p = call.Skip p
+about (call.Kill q) p = call.Kill p
+about (call.Timeout q) p = call.Timeout p
 about (call.Bindings q) p = call.Bindings p
 about (call.Frames q) p = call.Frames p
 about (call.Await q s) p = call.Await p s
@@ -142,7 +145,7 @@ is_served _ = false
 
 -- why a command is refused, where it is
 abbrev pub refused : Plan → Facts → ℕ → Call → Option Refusal
-refused plan f c (call.Start m n args) = first_case ((not (nat_lt (length f.plain.processes) most_processes), refusal.SystemLimit) ∷ [])
+refused plan f c (call.Start m n args) = first_case ((not (nat_lt (length f.plain.running) most_processes), refusal.SystemLimit) ∷ [])
 refused plan f c (call.Ii m) = first_case ((not (is_held plan.code m), refusal.NoModule) ∷ [])
 refused plan f c (call.Ib m l) = first_case ((is_some (row_at m l f.server.table), refusal.BreakExists) ∷ [])
 refused plan f c (call.Ia p) =
@@ -157,7 +160,7 @@ binding_rows ps = map (λ p. (p.0 ++ codes " = ") ++ term_text p.1) ps
 
 -- the bindings of the innermost Body of what a process has to do
 abbrev pub bindings_at : Facts → ℕ → Pairs
-bindings_at f p = of_body (option_body (process_at f.plain p).running)
+bindings_at f p = of_body (option_body (running_at f.plain p))
   where
     option_body : Option Run → Option Info
     option_body None = None

@@ -6,7 +6,7 @@ use Rattle.edb_lang.specs.declared.small.Break.{Break}
 use Rattle.edb_breaks.specs.Table.{row_at}
 use Rattle.edb_model.specs.Running.{Run}
 use Rattle.edb_model.specs.Move.{begins, next}
-use Rattle.edb_model.specs.Plain.{Plain, process_at}
+use Rattle.edb_model.specs.Plain.{Plain, running_at}
 use Rattle.edb_event.specs.declared.entry.Cause.{Cause}
 use Rattle.edb_event.specs.declared.entry.Cause.TheVariants as cause
 use Rattle.edb_rules.specs.Plans.{Plan}
@@ -29,7 +29,7 @@ WasDue h m l (cause.Break serial) = HasActive h m l serial
 -- Process p is about to begin the expression at this module and line.
 pub record StandsBefore (s : Plain) (p : ℕ) (m : List ℕ) (l : ℕ) : Type 0 where
   pub running : Run
-  pub lives : (process_at s p).running ≡ Some running
+  pub lives : (running_at s p) ≡ Some running
   pub at : next running ≡ begins m l
 
 -- A process goes on from this expression, the one after i moves of a slice: the slice doesn't end there; so no
@@ -42,5 +42,5 @@ pub record GoesOn (d : Debugged) (i : ℕ) (t : Run) : Type 0 where
 -- The n moves of process p pass nothing that is due: it goes on from each expression before the last.
 pub record PassesNone (plan : Plan) (f : Facts) (p n : ℕ) : Type 0 where
   pub running : Run
-  pub lives : (process_at f.plain p).running ≡ Some running
+  pub lives : (running_at f.plain p) ≡ Some running
   pub each : (i : ℕ) → i < n → GoesOn (debugged_at f p) i (after_moves plan.code f.plain.versions i running)

@@ -15,7 +15,7 @@ ghost use Rattle.edb_rules.specs.Plans.{Plan};
 ghost use Rattle.edb_rules.specs.Facts.{debugged_at};
 ghost use Rattle.edb_rules.specs.Replies.{next_call};
 ghost use Rattle.edb_rules.specs.Notes.{facts};
-ghost use Rattle.edb_event.specs.Erasure.{erase};
+ghost use Rattle.edb_rules.specs.Erasure.{erase};
 ghost use Rattle.edb_rules.specs.Legal.{Legal, IsOneHanded, IsAnswer, IsDone, IsOver};
 ghost use Rattle.edb_rules.specs.Stops.{WasDue, StandsBefore, PassesNone};
 ghost use Rattle.edb_rules.specs.Begins.{IsBeginning};

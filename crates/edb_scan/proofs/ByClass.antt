@@ -27,7 +27,7 @@ pub record IsBasedForm (whole tail : List ℕ) (piece : Option Token) : Type 0 w
   pub its_digits : IsDigits (number 10 whole) digits
   pub value : piece ≡ Some (Int (number (number 10 whole) digits))
 
--- what can stand behind a number's first digits: nothing, a `#` and digits, or a fraction
+-- what can stand after a number's first digits: nothing, a `#` and digits, or a fraction
 abbrev pub NumeralForm : List ℕ → List ℕ → Option Token → Type 0
 NumeralForm whole tail piece =
     ((tail ≡ []) × (piece ≡ Some (Int (number 10 whole))))

@@ -17,7 +17,7 @@ pub ends_at : (p : ℕ → Bool) (c : ℕ) (cs : List ℕ) → p c ≡ false →
 ends_at p c [] fails other = fails
 ends_at p c (d ∷ ds) fails other = (fails, λ gap. absurd (other gap))
 
--- where digits have ended, neither digits follow, nor a `_` and digits
+-- if digits have ended, neither digits follow, nor a `_` and digits
 pub no_digits : (p : ℕ → Bool) (u v w : List ℕ) → u ≡ v ++ w → EndsDigits p u → Digits p v → ⊥
 no_digits p u [] w e ends k = k
 no_digits p [] (d ∷ v) w e ends k = absurd (cc)
@@ -71,7 +71,7 @@ module _ (p : ℕ → Bool) (bar : p 95 ≡ false) where
       let ge = digits_longest v w t u (sym e) k ends2 h in
       same_front t u v w e (omega arith)
 
--- digits behind digits, and digits behind a `_` behind digits
+-- digits after digits, and digits after a `_` after digits
 pub digits_more : (p : ℕ → Bool) (t v : List ℕ) → Digits p t → Digits p v → Digits p (t ++ v)
 digits_more p [] v h k = absurd h
 digits_more p (c ∷ []) [] h k = absurd k

@@ -6,7 +6,7 @@ use Rattle.edb_scan.specs.QuoteFronts.{WritesBehindBackslash}
 use Rattle.edb_scan.specs.Quotation.{Writes, IsPlain, IsHex, escaped}
 use Rattle.edb_scan.proofs.QuoteLemmas.{plain_first}
 
--- `\x` and two digits, behind the backslash
+-- `\x` and two digits, after the backslash
 pub hex_found : (bytes rest after one : List ℕ) (letter c : ℕ) → bytes ≡ letter ∷ rest → letter ≡ 120 → rest ≡ one ++ after → IsHex (92 ∷ 120 ∷ one) c
     → (text : List ℕ) × (bytes ≡ text ++ after) × WritesBehindBackslash text c
 hex_found bytes rest after one letter c e is f h = (120 ∷ one, e ∙ ap (λ t. letter ∷ t) f ∙ ap (λ x. x ∷ (one ++ after)) is, inr h)
@@ -50,7 +50,7 @@ no_plain quote bytes behind c e is one after d f h =
     refused (inl k) s = h.no_quote (sym s ∙ k)
     refused (inr k) s = h.no_backslash (sym s ∙ k)
 
--- behind a backslash
+-- after a backslash
 pub escape_found : (quote : ℕ) (bytes rest after one : List ℕ) (c : ℕ) → bytes ≡ 92 ∷ rest → rest ≡ one ++ after → WritesBehindBackslash one c → (text : List ℕ) × (bytes ≡ text ++ after) × Writes quote text c
 escape_found quote bytes rest after one c e f h = (92 ∷ one, e ∙ ap (λ t. 92 ∷ t) f, inr h)
 

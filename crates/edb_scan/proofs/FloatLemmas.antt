@@ -101,7 +101,7 @@ power_ends power u k =
     no_bar c (inl e) f = absurd (omega arith)
     no_bar c (inr e) f = absurd (omega arith)
 
--- behind a point and digits that have ended, the longest power makes the longest fraction
+-- after a point and digits that have ended, the longest power makes the longest fraction
 fraction_longest : (bytes rest run after power : List ℕ) → bytes ≡ 46 ∷ rest → SplitsDigits is_ten rest run after
     → ((front u : List ℕ) → after ≡ front ++ u → IsPower front → length front ≤ length power)
     → (front u : List ℕ) → bytes ≡ front ++ u → IsFraction front → length front ≤ length (46 ∷ (run ++ power))

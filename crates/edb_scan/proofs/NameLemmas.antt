@@ -48,7 +48,7 @@ name_run : (first : ℕ → Bool) (t : List ℕ) → ((c : ℕ) → first c ≡ 
 name_run first [] in_name h = absurd h
 name_run first (c ∷ t) in_name h = and_from (is_name_char c) (list_all is_name_char t) (in_name c h.0) h.1
 
--- the run of bytes of names is a name, where its first byte may begin one
+-- the run of bytes of names is a name, if its first byte may begin one
 name_of_run : (first : ℕ → Bool) (c : ℕ) (cs text after : List ℕ) → first c ≡ true → is_name_char c ≡ true → SplitsRun is_name_char (c ∷ cs) text after → IsName first text
 name_of_run first c cs [] [] is in_name split = let cut = split.cut in absurd (cc)
 name_of_run first c cs [] (d ∷ after) is in_name split =

@@ -1,4 +1,4 @@
--- A number's first digits settle what it is: what stands behind them is nothing, a `#` and digits, or a fraction.
+-- A number's first digits settle what it is: what stands after them is nothing, a `#` and digits, or a fraction.
 use Rattle.std.proofs.Common.{◌≡◌, ◌⊎◌, ℕ, suc, ◌≤◌, ◌<◌, ◌+◌, ◌*◌, get_or, drop, drop-cons, Bool, true, false, List, [], ◌∷◌, ◌++◌, length, Option, Some, refl, sym, ap, ◌∙◌, subst, inl, inr, ⊎_elim, arith, length-append, append_assoc}
 use Rattle.std.specs.Prelude.{◌==◌}
 use Rattle.std.specs.Char.{is_digit, digit_value}
@@ -43,7 +43,7 @@ numeral_one text p q h k =
     let same = digits_exact is_ten refl h.whole h.tail k.whole k.tail (sym h.cut ∙ k.cut) h.digits (form_ends h.whole h.tail p h.form) k.digits (form_ends k.whole k.tail q k.form) in
     form_one h.whole h.tail k.whole k.tail p q same.0 same.1 h.form k.form
 
--- behind digits that have ended, the longest form makes the longest number
+-- after digits that have ended, the longest form makes the longest number
 pub numeral_longest : (whole rest tail : List ℕ) → IsDigits 10 whole → EndsDigits is_ten rest
     → ((others u : List ℕ) (p : Option Token) → rest ≡ others ++ u → NumeralForm whole others p → length others ≤ length tail)
     → (t u : List ℕ) (p : Option Token) → whole ++ rest ≡ t ++ u → IsNumeral t p → length t ≤ length (whole ++ tail)

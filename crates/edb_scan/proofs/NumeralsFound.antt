@@ -22,7 +22,7 @@ use Rattle.edb_scan.proofs.ShortKinds.{begins_by}
 pub bar_no_digit : (base : ℕ) → base ≤ 36 → is_digit 95 base ≡ false
 bar_no_digit base low = grind (arith, nat_tests)
 
--- a form that is no shorter than any other begins the text, behind the first digits
+-- a form that is no shorter than any other begins the text, after the first digits
 form_begins : (bytes whole rest tail after : List ℕ) (p : Option Token) → Heads Digit bytes → SplitsDigits is_ten bytes whole rest → rest ≡ tail ++ after → Spells (whole ++ tail) after p
     → ((others u : List ℕ) (o : Option Token) → rest ≡ others ++ u → NumeralForm whole others o → length others ≤ length tail) → Begins bytes after p
 form_begins [] whole rest tail after p head digits e spells longest = absurd head
@@ -86,7 +86,7 @@ decimal_begins bytes whole rest head digits no_fraction no_base =
     longest others u o e (inr (inl h)) = absurd (no_base h.digits u (e ∙ ap (λ t. t ++ u) h.cut) h.at_least_two h.at_most_36 h.its_digits)
     longest others u o e (inr (inr h)) = absurd (no_fraction others u e h.0)
 
--- an integer that begins the text is found, where it is within its limit
+-- an integer that begins the text is found, if it is within its limit
 pub integer_finds : (bytes after : List ℕ) (n : ℕ) (found : Option (Option Token × Bor (List ℕ))) → Begins bytes after (Some (Int n))
     → MatchOption found (2 ^ 127 ≤ n) (λ x. (x.0 ≡ Some (Int n)) × (x.1.now ≡ after) × (n < 2 ^ 127)) → Finds bytes found
 integer_finds bytes after n None begins large = past_limit bytes after (Some (Int n)) begins (λ (fits : n < 2 ^ 127). absurd (omega arith))

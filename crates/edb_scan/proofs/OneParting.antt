@@ -9,7 +9,7 @@ use Rattle.edb_scan.proofs.OnePiece.{begins_same, begins_some}
 pub nothing_left : (after : List ℕ) (p : Option Token) → Begins [] after p → ⊥
 nothing_left after p h = let some = begins_some [] after p h in absurd (omega (arith, ap length h.cut, length-append h.text after))
 
--- where nothing is left
+-- if nothing is left
 pub only_end : (front rest : List ℕ) (behind : Bool) (ts : List Placed) (stop : Option ℕ) → Parted front behind rest ts stop → rest ≡ [] → (ts ≡ []) × (stop ≡ None)
 only_end front rest behind ts stop (at_end f b) e = (refl, refl)
 only_end front rest behind ts stop (at_fault f b r some none) e = absurd (some e)
@@ -17,14 +17,14 @@ only_end front rest behind ts stop (next_piece f b r after next p us all stop' b
     let P : List ℕ → Type 0 = λ t. Begins t after p in
     absurd (nothing_left after p (subst P e begins))
 
--- where no piece may stand
+-- if no piece may stand
 pub only_fault : (front rest : List ℕ) (behind : Bool) (ts : List Placed) (stop : Option ℕ) → Parted front behind rest ts stop → rest ≢ []
     → ((after : List ℕ) (p : Option Token) → Begins rest after p → MayStand behind p → ⊥) → (ts ≡ []) × (stop ≡ Some (length front))
 only_fault front rest behind ts stop (at_end f b) some none = absurd (some refl)
 only_fault front rest behind ts stop (at_fault f b r some' none') some none = (refl, refl)
 only_fault front rest behind ts stop (next_piece f b r after next p us all stop' begins may n l parted) some none = absurd (none after p begins may)
 
--- where a piece may stand
+-- if a piece may stand
 pub only_piece : (front rest : List ℕ) (behind : Bool) (ts : List Placed) (stop : Option ℕ) → Parted front behind rest ts stop
     → (after : List ℕ) (p : Option Token) (begins : Begins rest after p) → MayStand behind p
     → (us : List Placed) × (ts ≡ placed (line_after front) p us) × Parted (front ++ begins.text) (is_string p) after us stop

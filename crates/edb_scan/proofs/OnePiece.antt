@@ -82,7 +82,7 @@ longest_by class c cs n is longest (d ∷ t) u p e h =
     let P : Class → Type 0 = λ k. Only k (d ∷ t) u p in
     longest (d ∷ t) u p e (subst P (ap class_of (sym heads) ∙ is) (only d t u p h))
 
--- nothing begins a text where nothing of its class does
+-- nothing begins a text if nothing of its class does
 pub nothing_by : (class : Class) (c : ℕ) (cs : List ℕ) → class_of c ≡ class
     → ((t u : List ℕ) (p : Option Token) → c ∷ cs ≡ t ++ u → Only class t u p → ⊥)
     → NothingFits (c ∷ cs)

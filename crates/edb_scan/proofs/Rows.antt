@@ -1,16 +1,24 @@
 -- The tables of marks and of reserved words: no spelling stands twice, and each has its shape.
-use Rattle.std.proofs.Common.{◌≡◌, ℕ, Bool, true, false, not, ◌&&◌, List, [], ◌∷◌, refl, sym, ap, ◌∙◌, inl, inr}
+use Rattle.std.proofs.Common.{◌≡◌, ℕ, Bool, true, false, not, ◌&&◌, List, [], ◌∷◌, map, refl, sym, ap, ◌∙◌, inl, inr}
 use Rattle.std.specs.Prelude.{bytes_eq}
 use Rattle.std.specs.List.{list_all}
 use Rattle.std.specs.Cmp.Lexicographic.{bytes_decides}
 use Rattle.std.proofs.lemmas.Bool.{and_parts, both_ways, not-true}
 use Rattle.edb_scan.specs.declared.lexeme.Mark.{Mark}
+use Rattle.edb_scan.specs.declared.tables.TheConstants.{MARKS, WORDS}
 use Rattle.edb_scan.specs.declared.classes.Class.{Class}
 use Rattle.edb_scan.specs.declared.classes.Class.TheVariants.{Space, Percent, Digit, Lower, Upper, Quote, Tick, Dollar, Other}
 use Rattle.edb_scan.specs.FirstByte.{class_of}
 use Rattle.edb_scan.specs.Letters.{is_lower, is_name_char}
 use Rattle.edb_scan.specs.Lexis.{IsName}
 use Rattle.edb_scan.specs.Spellings.{Lists, mark_rows, word_rows, IsMark, IsWord}
+
+-- the code's tables have the marks and the reserved words, each with its spelling
+pub marks_listed : map (λ row. (row.0.now, row.1)) MARKS ≡ mark_rows
+marks_listed = refl
+
+pub words_listed : map (λ row. (row.0.now, row.1)) WORDS ≡ word_rows
+words_listed = refl
 
 -- what a test says of each row's text
 pub lists_pass : (test : List ℕ → Bool) (rows : List (List ℕ × Mark)) (text : List ℕ) (m : Mark) → list_all (λ row. test row.0) rows ≡ true → Lists rows text m → test text ≡ true

@@ -12,7 +12,7 @@ use Rattle.edb_scan.proofs.ByClass.{Only, percent}
 use Rattle.edb_scan.proofs.FrontLemmas.{same_front, run_longest}
 use Rattle.edb_scan.proofs.OnePiece.{longest_by, nothing_by}
 
--- a piece begins a text where no other of its class is longer
+-- a piece begins a text if no other of its class is longer
 pub begins_by : (class : Class) (c : ℕ) (cs text after : List ℕ) (p : Option Token) → class_of c ≡ class → c ∷ cs ≡ text ++ after → Spells text after p
     → ((t u : List ℕ) (o : Option Token) → c ∷ cs ≡ t ++ u → Only class t u o → length t ≤ length text) → Begins (c ∷ cs) after p
 begins_by class c cs text after p is e spells longest = record { text = text; cut = e; spells = spells; longest = longest_by class c cs (length text) is longest }

@@ -14,7 +14,7 @@ listed_at [] i d lt = absurd (omega arith)
 listed_at (row ∷ rows) zero d lt = inl (refl, refl)
 listed_at (row ∷ rows) (suc i) d lt = inr (listed_at rows i d (omega arith))
 
--- what is listed from a row on, and is not that row, is listed behind it
+-- what is listed from a row on, and is not that row, is listed after it
 pub listed_behind : (table : List (Bor (List ℕ) × Mark)) (i : ℕ) (d : Bor (List ℕ) × Mark) (text : List ℕ) (m : Mark) → i < length table
     → ((get_or table i d).0.now ≡ text → ⊥) → Lists (table_of (drop i table)) text m → Lists (table_of (drop (i + 1) table)) text m
 listed_behind table i d text m lt other h =
@@ -27,7 +27,7 @@ listed_nowhere table i text m past h =
     let P : List (Bor (List ℕ) × Mark) → Type 0 = λ t. Lists (table_of t) text m in
     subst P (drop_all i table past) h
 
--- where the longest stand first, what is listed from a row on is no longer than that row
+-- if the longest stand first, what is listed from a row on is no longer than that row
 pub no_longer : (table : List (Bor (List ℕ) × Mark)) (i : ℕ) (d : Bor (List ℕ) × Mark) (text : List ℕ) (m : Mark) → i < length table → longest_first (table_of table) ≡ true
     → Lists (table_of (drop i table)) text m → length text ≤ length (get_or table i d).0.now
 no_longer [] i d text m lt first h = absurd (omega arith)

@@ -54,13 +54,13 @@ pub nothing_in_empty : (bytes : List ℕ) → length bytes ≡ 0 → NothingFits
 nothing_in_empty [] e after p h fits = nothing_left after p h
 nothing_in_empty (c ∷ cs) e after p h fits = absurd (omega arith)
 
--- a string directly behind a string may not stand, and no other piece begins there
+-- a string directly after a string may not stand, and no other piece begins there
 pub string_behind_string : (behind : Bool) (bytes after : List ℕ) (p : Option Token) → Begins bytes after p → behind ≡ true → is_string p ≡ true → NoneStands behind bytes
 string_behind_string behind bytes after p begins is string other q k may =
     let same = begins_same bytes after other p q begins k in
     both_ways (is_string q) (may.1 is) (ap is_string (sym same.2) ∙ string)
 
--- what parts the rest parts the whole, behind the tokens so far
+-- what parts the rest parts the whole, after the tokens so far
 abbrev pub Goes : (bytes front : List ℕ) (behind : Bool) (rest : List ℕ) (items : List Placed) → Type 0
 Goes bytes front behind rest items = (tokens : List Placed) (stop : Option ℕ) → Parted front behind rest tokens stop → Parted [] false bytes (items ++ tokens) stop
 

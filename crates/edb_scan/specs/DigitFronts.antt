@@ -23,11 +23,11 @@ IsStep p rest after = ((c : ℕ) × (p c ≡ true) × (rest ≡ c ∷ after)) �
 abbrev pub is_sign_byte : ℕ → Bool
 is_sign_byte c = c == 43 || c == 45
 
--- what comes after a sign, or the text itself where it begins with none
+-- what comes after a sign, or the text itself if it begins with none
 abbrev pub SplitsSign : List ℕ → List ℕ → Type 0
 SplitsSign bytes rest = ((c : ℕ) × (bytes ≡ c ∷ rest) × ((c ≡ 43) ⊎ (c ≡ 45))) ⊎ ((rest ≡ bytes) × Stops is_sign_byte bytes)
 
--- behind a base, a `#` and digits of it
+-- after a base, a `#` and digits of it
 pub record IsBasedTail (base : ℕ) (tail digits after : List ℕ) : Type 0 where
   pub cut : tail ≡ 35 ∷ (digits ++ after)
   pub at_least_two : 2 ≤ base

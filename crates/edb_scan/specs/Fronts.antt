@@ -9,11 +9,11 @@ use Rattle.edb_scan.specs.Lexis.{Begins, Fits, MayStand}
 abbrev pub NothingFits : List ℕ → Type 0
 NothingFits rest = (after : List ℕ) (piece : Option Token) → Begins rest after piece → Fits piece → ⊥
 
--- the piece that begins the text, and what comes after it; None where none within its limits does
+-- the piece that begins the text, and what comes after it; None if none within its limits does
 abbrev pub Finds : List ℕ → Option (Option Token × Bor (List ℕ)) → Type 0
 Finds rest found = MatchOption found (NothingFits rest) (λ x. Begins rest x.1.now x.0 × Fits x.0)
 
--- no piece may stand at the head of the text
+-- no piece may begin the text
 abbrev pub NoneStands : Bool → List ℕ → Type 0
 NoneStands behind_string rest = (after : List ℕ) (piece : Option Token) → Begins rest after piece → MayStand behind_string piece → ⊥
 

@@ -46,12 +46,12 @@ pub record IsQuotedAtom (text name : List ℕ) : Type 0 where
 abbrev pub IsBareAtom : List ℕ → List ℕ → Type 0
 IsBareAtom text name = (name ≡ text) × IsName is_lower text × ((m : Mark) → IsWord text m → ⊥)
 
--- a `.` is a dot where white space, a comment or the end of the text follows
+-- a `.` is a dot if white space, a comment or the end of the text follows
 abbrev pub ends_form : List ℕ → Bool
 ends_form [] = true
 ends_form (c ∷ cs) = is_space c || c == 37
 
--- what a text spells where this comes after it: a token, or white space or a comment for None
+-- what a text spells if this comes after it: a token, or white space or a comment for None
 abbrev pub Spells : List ℕ → List ℕ → Option Token → Type 0
 Spells text after None = IsSpace text ⊎ IsComment text after
 Spells text after (Some (Int n)) = IsInteger text n
@@ -93,6 +93,6 @@ is_string (Some (Str cs)) = true
 is_string (Some (token.Mark m)) = false
 is_string (Some Dot) = false
 
--- a piece within its limits, where no string stands directly behind a string
+-- a piece within its limits; no string comes directly after a string
 abbrev pub MayStand : Bool → Option Token → Type 0
 MayStand behind_string piece = Fits piece × (behind_string ≡ true → is_string piece ≡ false)

@@ -3,6 +3,7 @@ pub mod FirstByte
 pub mod Fronts
 pub mod Letters
 pub mod Lexis
+pub mod MarkText
 pub mod Numerals
 pub mod Parting
 pub mod Quotation

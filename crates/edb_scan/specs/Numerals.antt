@@ -12,7 +12,7 @@ Digits p (c ∷ d ∷ ds) = (p c ≡ true) × (Digits p (d ∷ ds) ⊎ ((d ≡ 9
 abbrev pub IsDigits : ℕ → List ℕ → Type 0
 IsDigits base text = Digits (λ c. is_digit c base) text
 
--- the number that digits of this base write behind those that wrote n; each `_` is passed over
+-- the number that digits of this base write after those that wrote n; each `_` is passed over
 abbrev pub number_after : ℕ → ℕ → List ℕ → ℕ
 number_after base n [] = n
 number_after base n (c ∷ cs) = cond (c == 95) (number_after base n cs) (number_after base (n * base + digit_value c) cs)
@@ -57,7 +57,7 @@ pub record IsFraction (text : List ℕ) : Type 0 where
   pub are_digits : IsDigits 10 digits
   pub power_or_none : (power ≡ []) ⊎ IsPower power
 
--- digits, and a fraction directly behind them
+-- digits, and a fraction directly after them
 pub record IsFloat (text : List ℕ) : Type 0 where
   pub whole : List ℕ
   pub fraction : List ℕ

@@ -4,7 +4,7 @@ use Rattle.edb_scan.specs.declared.lexeme.Token.{Token}
 use Rattle.edb_scan.specs.declared.lexeme.Placed.{Placed}
 use Rattle.edb_scan.specs.Lexis.{Begins, MayStand, is_string}
 
--- the line of what stands behind these bytes: 1 plus the newlines among them
+-- the line of what comes after these bytes: 1 plus the newlines among them
 unfoldable pub line_after : List ℕ → ℕ
 line_after front = 1 + count_by (λ c. c == 10) front
 
@@ -13,8 +13,8 @@ abbrev pub placed : ℕ → Option Token → List Placed → List Placed
 placed line None tokens = tokens
 placed line (Some t) tokens = record { line = line; token = t } ∷ tokens
 
--- Behind `front`, whose last piece was a string or not, `rest` parts into these tokens, up to its end
--- or up to the fault at an offset of the whole text: the first byte at which no piece may stand.
+-- After `front`, whose last piece was a string or not, `rest` parts into these tokens, up to its end
+-- or up to the fault at an offset of the whole text: the first byte at which no piece may begin.
 pub data Parted : List ℕ → Bool → List ℕ → List Placed → Option ℕ → Type 0 where
   at_end : (front : List ℕ) (behind_string : Bool) → Parted front behind_string [] [] None
   at_fault : (front : List ℕ) (behind_string : Bool) (rest : List ℕ) → rest ≢ []
@@ -38,7 +38,7 @@ longest_file = 1_000_000
 unfoldable pub AreTokens : List ℕ → List Placed → Type 0
 AreTokens bytes tokens = (length bytes ≤ longest_file) × Parted [] false bytes tokens None
 
--- the answer's fault: the text's first one where it lies below the limit; in a text that is too long and has none there, the limit
+-- the answer's fault: the text's first one if it is below the limit; in a text that is too long and has none there, the limit
 unfoldable pub IsFault : List ℕ → ℕ → Type 0
 IsFault bytes at =
     (FaultAt bytes at × (at < longest_file))

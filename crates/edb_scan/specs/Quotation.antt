@@ -45,7 +45,7 @@ pub record IsPlain (quote : ℕ) (text : List ℕ) (c : ℕ) : Type 0 where
 abbrev pub Writes : ℕ → List ℕ → ℕ → Type 0
 Writes quote text c = IsPlain quote text c ⊎ IsEscape text c ⊎ IsHex text c
 
--- the text writes these characters, one behind another
+-- the text writes these characters, one after another
 abbrev pub Quotes : ℕ → List ℕ → List ℕ → Type 0
 Quotes quote text [] = text ≡ []
 Quotes quote text (c ∷ cs) = (one : List ℕ) × (rest : List ℕ) × (text ≡ one ++ rest) × Writes quote one c × Quotes quote rest cs
@@ -56,7 +56,7 @@ pub record IsQuoted (quote : ℕ) (text cs : List ℕ) : Type 0 where
   pub cut : text ≡ quote ∷ (inner ++ quote ∷ [])
   pub quotes : Quotes quote inner cs
 
--- behind `$` no quote needs an escape: this is no character
+-- no character, since no quote needs an escape after `$`
 abbrev pub no_quote : ℕ
 no_quote = 0x11_0000
 

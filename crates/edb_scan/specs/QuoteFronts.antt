@@ -9,7 +9,7 @@ FindsFirst W bytes found =
     MatchOption found ((one after : List ℕ) (c : ℕ) → bytes ≡ one ++ after → W one c → ⊥)
     (λ x. (one : List ℕ) × (bytes ≡ one ++ x.1.now) × W one x.0)
 
--- what the rest of an escape writes, behind its backslash
+-- what the rest of an escape writes, after its backslash
 abbrev pub WritesBehindBackslash : List ℕ → ℕ → Type 0
 WritesBehindBackslash text c = IsEscape (92 ∷ text) c ⊎ IsHex (92 ∷ text) c
 

@@ -9,7 +9,7 @@ use Rattle.edb_scan.specs.Spellings.{Lists}
 abbrev pub table_of : List (Bor (List ℕ) × Mark) → List (List ℕ × Mark)
 table_of table = map (λ row. (row.0.now, row.1)) table
 
--- each text is no shorter than those behind it
+-- each text is no shorter than those after it
 abbrev pub longest_first : List (List ℕ × Mark) → Bool
 longest_first [] = true
 longest_first (row ∷ rows) = list_all (λ other. nat_le (length other.0) (length row.0)) rows && longest_first rows

@@ -87,7 +87,7 @@ pub enum Mark {
     Star,
     /// `/`
     Slash,
-    /// `.` where it is no dot
+    /// `.`, if it is no dot
     Point,
     /// `after`
     After,

@@ -37,7 +37,7 @@ fn ends_form(after: &[u8]) -> bool
     }
 }
 
-/// Whether a `.` alone stands before what comes after it, which ends these bytes.
+/// Whether these bytes are a `.` alone, and what comes after it.
 fn is_point(bytes: &[u8], after: &[u8]) -> bool
     requires { (text : List ℕ) × (bytes.now ≡ text ++ after.now) }
     ensures { IsTrue result ↔ (bytes.now ≡ 46 ∷ after.now) }

@@ -53,7 +53,7 @@ fn digits(base: u32, bytes: &[u8]) -> Option<(&[u8], &[u8])>
     }
 }
 
-/// The number with one more digit, where it is below 2^127.
+/// The number with one more digit, if it is below 2^127.
 fn after_digit(number: u128, base: u32, byte: u8) -> Option<u128>
     ensures { MatchOption result (2 ^ 127 ≤ number * base + chars.digit_value byte) (λ n. (n ≡ number * base + chars.digit_value byte) × (n < 2 ^ 127)) }
 {
@@ -62,7 +62,7 @@ fn after_digit(number: u128, base: u32, byte: u8) -> Option<u128>
     if sum < 1 << 127 { Some(sum) } else { None }
 }
 
-/// The number that digits of this base write, where it is below 2^127.
+/// The number that digits of this base write, if it is below 2^127.
 fn number(base: u32, text: &[u8]) -> Option<u128>
     requires { 0 < base }
     ensures { MatchOption result (2 ^ 127 ≤ numerals.number base text.now) (λ n. (n ≡ numerals.number base text.now) × (n < 2 ^ 127)) }
@@ -79,7 +79,7 @@ fn number(base: u32, text: &[u8]) -> Option<u128>
     Some(number)
 }
 
-/// The number that the digits write, where it is a base.
+/// The number that the digits write, if it is a base.
 fn base_of(digits: &[u8]) -> Option<u32>
     ensures { MatchOption result ((numerals.number 10 digits.now < 2) ⊎ (36 < numerals.number 10 digits.now)) (λ b. (b ≡ numerals.number 10 digits.now) × (2 ≤ b) × (b ≤ 36)) }
 {
@@ -91,7 +91,7 @@ fn base_of(digits: &[u8]) -> Option<u32>
     }
 }
 
-/// Behind digits that may be a base: the base, and the digits behind `#` with what comes after them.
+/// After digits that may be a base: the base, and the digits after `#` with what comes after them.
 fn based<'a>(whole: &[u8], tail: &'a [u8]) -> Option<(u32, &'a [u8], &'a [u8])>
     ensures { MatchOption result (NoBasedTail (numerals.number 10 whole.now) tail.now) (λ x. (x.0 ≡ numerals.number 10 whole.now) × IsBasedTail x.0 tail.now x.1.now x.2.now) }
 {
@@ -101,7 +101,7 @@ fn based<'a>(whole: &[u8], tail: &'a [u8]) -> Option<(u32, &'a [u8], &'a [u8])>
     Some((base, text, after))
 }
 
-/// What comes after a sign, or the text itself where it begins with none.
+/// What comes after a sign, or the text itself if it begins with none.
 fn without_sign(bytes: &[u8]) -> &[u8]
     ensures { SplitsSign bytes.now result.now }
 {
@@ -149,7 +149,7 @@ fn fraction(bytes: &[u8]) -> Option<&[u8]>
     }
 }
 
-/// The integer that these digits write, where it is below 2^127, beside what comes after it.
+/// The integer that these digits write, if it is below 2^127, beside what comes after it.
 fn integer<'a>(base: u32, text: &[u8], after: &'a [u8]) -> Option<(Option<Token>, &'a [u8])>
     requires { 0 < base }
     ensures { MatchOption result (2 ^ 127 ≤ numerals.number base text.now) (λ x. (x.0 ≡ Some (Token.Int (numerals.number base text.now))) × (x.1.now ≡ after.now) × (numerals.number base text.now < 2 ^ 127)) }

@@ -14,7 +14,7 @@ use crate::points::Text;
 use edb_lang::Name;
 use std::alloc::{AllocError, Global};
 
-/// No character: behind `$` no quote needs an escape.
+/// No character, since no quote needs an escape after `$`.
 const NO_QUOTE: u32 = 0x11_0000;
 
 /// How many bytes a character takes that begins with this byte, if any does.
@@ -108,7 +108,7 @@ fn hex(bytes: &[u8]) -> Option<(char, &[u8])>
     Some((char::from(high * 16 + low), after))
 }
 
-/// The character of an escape, behind its backslash, and what comes after it.
+/// The character of an escape, after its backslash, and what comes after it.
 fn escape(bytes: &[u8]) -> Option<(char, &[u8])>
     ensures { FindsFirst WritesBehindBackslash bytes.now result }
 {
@@ -157,7 +157,7 @@ fn written(quote: u32, bytes: &[u8]) -> Option<(char, &[u8])>
     }
 }
 
-/// The characters up to the closing quote, and what comes after it; refused only for want of memory.
+/// The characters up to the closing quote, and what comes after it; fails only when out of memory.
 fn quoted<'a>(
     alloc: Global,
     quote: u8,
@@ -184,7 +184,7 @@ fn quoted<'a>(
     Ok(None)
 }
 
-/// The code points of a text; refused only for want of memory.
+/// The code points of a text; fails only when out of memory.
 fn points_of(alloc: Global, text: &str) -> Result<Text, AllocError>
     ensures { IfOk result (λ points. points ≡ chars text.now) }
 {
@@ -195,7 +195,7 @@ fn points_of(alloc: Global, text: &str) -> Result<Text, AllocError>
     Ok(Text::from_vec(points))
 }
 
-/// The string behind its first quote; refused only for want of memory.
+/// The string after its first quote; fails only when out of memory.
 pub fn string(alloc: Global, bytes: &[u8]) -> Result<Option<(Option<Token>, &[u8])>, AllocError>
     ensures { IfOk result (λ found. Finds (34 ∷ bytes.now) found) }
 {
@@ -215,7 +215,7 @@ fn char_count(text: &str) -> usize
     text.chars().count()
 }
 
-/// The atom in quotes behind its first quote; refused only for want of memory.
+/// The atom in quotes after its first quote; fails only when out of memory.
 pub fn quoted_atom(
     alloc: Global,
     bytes: &[u8],
@@ -233,7 +233,7 @@ pub fn quoted_atom(
     }
 }
 
-/// The character behind its `$`.
+/// The character after its `$`.
 pub fn character(bytes: &[u8]) -> Option<(Option<Token>, &[u8])>
     ensures { Finds (36 ∷ bytes.now) result }
 {

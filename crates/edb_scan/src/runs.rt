@@ -8,7 +8,7 @@ ghost use Rattle.edb_scan.specs.Lexis.{stays_in_line};
 use crate::classes::is_name_char;
 use crate::lexeme::Token;
 
-/// Splits a text behind the bytes of names at its front.
+/// Splits a text after the bytes of names at its front.
 pub fn split_name(bytes: &[u8]) -> (&[u8], &[u8])
     ensures { SplitsRun letters.is_name_char bytes.now result.0.now result.1.now }
 {
@@ -39,7 +39,7 @@ pub fn newlines(bytes: &[u8]) -> usize
     bytes.iter().filter(|byte| **byte == b'\n').count()
 }
 
-/// The comment behind its `%`.
+/// The comment after its `%`.
 pub fn comment(bytes: &[u8]) -> Option<(Option<Token>, &[u8])>
     ensures { Finds (37 ∷ bytes.now) result }
 {

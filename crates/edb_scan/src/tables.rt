@@ -3,7 +3,7 @@
 use crate::lexeme::Mark;
 
 /// The marks, the longest first.
-pub const MARKS: [(&'static [u8], Mark); 40] = [
+pub(crate) const MARKS: [(&'static [u8], Mark); 40] = [
     (b"...", Mark::Ellipsis),
     (b"=:=", Mark::ExactlyEqual),
     (b"=/=", Mark::ExactlyUnequal),
@@ -47,7 +47,7 @@ pub const MARKS: [(&'static [u8], Mark); 40] = [
 ];
 
 /// The reserved words.
-pub const WORDS: [(&'static [u8], Mark); 29] = [
+pub(crate) const WORDS: [(&'static [u8], Mark); 29] = [
     (b"after", Mark::After),
     (b"and", Mark::And),
     (b"andalso", Mark::AndAlso),

@@ -26,7 +26,7 @@ pub struct ScanFault {
     pub at: u32,
 }
 
-/// The piece that begins a text, and what comes after it; refused only for want of memory.
+/// The piece that begins a text, and what comes after it; fails only when out of memory.
 pub fn piece(alloc: Global, bytes: &[u8]) -> Result<Option<(Option<Token>, &[u8])>, AllocError>
     ensures { IfOk result (λ found. Finds bytes.now found) }
 {
@@ -56,8 +56,8 @@ fn is_string(piece: &Option<Token>) -> bool
     }
 }
 
-/// The piece that begins a text, where it may stand behind a string or another piece; refused only
-/// for want of memory.
+/// The piece that begins a text, if it may follow a string or another piece; fails only when out of
+/// memory.
 fn standing(
     alloc: Global,
     bytes: &[u8],
@@ -76,7 +76,7 @@ fn standing(
     }
 }
 
-/// Puts a piece behind the tokens, where it is one; refused only for want of memory.
+/// Puts a piece after the tokens, if it is a token; fails only when out of memory.
 fn put(items: &mut Vec<Placed>, line: u32, piece: Option<Token>) -> Result<(), AllocError>
     ensures { IfOk result (λ _. items.new.items ≡ items.old.items ++ placed line piece []) }
 {
@@ -90,8 +90,8 @@ fn put(items: &mut Vec<Placed>, line: u32, piece: Option<Token>) -> Result<(), A
 }
 
 /// The tokens of a source text, each with its line; or its first fault, which is the first byte at
-/// which no token, white space or comment may stand, where that lies within the longest file, and
-/// else the limit of a file that is too long. `AllocError` is want of memory alone.
+/// which no token, white space or comment may begin, if that is within the longest file, and else the
+/// limit of a file that is too long. `AllocError` only when out of memory.
 pub fn scan(alloc: Global, bytes: &[u8]) -> Result<Result<Tokens, ScanFault>, AllocError>
     ensures { IfOk result (λ r. MatchResult r (λ ts. AreTokens bytes.now ts) (λ e. IsFault bytes.now e.at)) }
 {

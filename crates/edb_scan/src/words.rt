@@ -28,7 +28,7 @@ fn find_text(table: &[(&'static [u8], Mark)], text: &[u8]) -> Option<Mark>
     None
 }
 
-/// The name of these bytes; refused only for want of memory.
+/// The name of these bytes; fails only when out of memory.
 fn named(alloc: Global, text: &[u8]) -> Result<Name, AllocError>
     requires { list_all is_name_char text.now ≡ true }
     ensures { IfOk result (λ name. name ≡ text.now) }

@@ -1,11 +1,11 @@
 -- The causes of the ends exclude each other, so an end comes wherever its cause holds.
 
-use Rattle.std.proofs.Common.{◌≡◌, inl, inr, ℕ, zero, suc, Bool, List, [], ◌∷◌, ◌++◌, length, get_or, Option, None, Some, IsSomeAnd, unwrap_or, refl, sym, ◌∙◌, ap, ap₂, subst, arith, append_assoc}
-use Rattle.std.proofs.lemmas.List.{append_cancel_left}
+use Rattle.std.proofs.Common.{◌≡◌, inl, inr, ℕ, Bool, List, [], ◌∷◌, get_or, Option, None, Some, IsSomeAnd, refl, sym, ◌∙◌, ap, ap₂, subst, arith}
 use Rattle.std.proofs.lemmas.Option.{none-some}
 use Rattle.edb_lang.specs.Syntax.{ModuleTree}
-use Rattle.edb_io.specs.declared.reading.FileRead.{FileRead}
-use Rattle.edb_io.specs.Reads.{file_read}
+use Rattle.edb_io.specs.OneRead.{Read}
+use Rattle.edb_files.specs.InOrder.{AreRead, FailsAt}
+use Rattle.edb_files.proofs.ReadLaws.{texts_one, read_or_failed}
 use Rattle.edb_model.specs.declared.tables.Tables.{Tables}
 use Rattle.edb_small.specs.SmallModule.{IsModule}
 use Rattle.edb_event.specs.declared.call.Command.{Command}
@@ -19,7 +19,7 @@ use Rattle.edb_session.specs.declared.ending.End.{End}
 use Rattle.edb_session.specs.declared.ending.End.TheVariants.{Done, Words, FileFault, ModuleRefused, ScriptRefused, Limit, WriteFault, NoMemory}
 use Rattle.edb_session.specs.declared.ending.ModuleFault.TheVariants.{NotYet}
 use Rattle.edb_session.specs.Runs.{plan_with}
-use Rattle.edb_session.specs.Reading.{Names, most_bytes, AreRead, FailsAt, RefusesModule, RefusesScript, IsAccepted}
+use Rattle.edb_session.specs.Reading.{Names, both, RefusesModule, RefusesScript, IsAccepted}
 use Rattle.edb_session.specs.Ends.{HasCause, Leaves, IsWritten, KeepsFlag}
 use Rattle.edb_session.specs.Exact.{WordsExactly, ModuleExactly, ScriptExactly, DoneExactly, LimitExactly, IsComplete}
 
@@ -46,56 +46,30 @@ the_names names P n some x = subst (λ (o : Option Names). IsSomeAnd o P) some x
 not_none : (names : Option Names) (n : Names) → names ≡ Some n → names ≡ None → ⊥
 not_none names n some none = none-some n (sym none ∙ some)
 
--- two reads behind the same list
-two_reads : (old : List FileRead) (x y v w : FileRead) → (old ++ x ∷ []) ++ y ∷ [] ≡ (old ++ v ∷ []) ++ w ∷ []
-    → x ∷ (y ∷ []) ≡ v ∷ (w ∷ [])
-two_reads old x y v w same =
-    append_cancel_left old _ _ (sym (append_assoc old (x ∷ []) (y ∷ [])) ∙ (same ∙ append_assoc old (v ∷ []) (w ∷ [])))
-
-first_read : (x y v w : FileRead) → x ∷ (y ∷ []) ≡ v ∷ (w ∷ []) → x ≡ v
-first_read x y v w same = ap (λ (rs : List FileRead). get_or rs 0 x) same
-
-second_read : (x y v w : FileRead) → x ∷ (y ∷ []) ≡ v ∷ (w ∷ []) → y ≡ w
-second_read x y v w same = ap (λ (rs : List FileRead). get_or rs 1 x) same
-
-same_bytes : (name s t : List ℕ) (most : ℕ) → file_read name most (Some s) ≡ file_read name most (Some t) → s ≡ t
-same_bytes name s t most same = ap (λ (r : FileRead). unwrap_or r.bytes []) same
-
-no_bytes : (name s : List ℕ) (most : ℕ) → file_read name most None ≡ file_read name most (Some s) → ⊥
-no_bytes name s most same = none-some s (ap (λ (r : FileRead). r.bytes) same)
-
 -- what was read was read once
-scripts_same : (n : Names) (old new : List FileRead) (s f t g : List ℕ) → AreRead n old new s f → AreRead n old new t g → s ≡ t
-scripts_same n old new s f t g a b =
-    same_bytes n.0 s t most_bytes (first_read _ _ _ _ (two_reads old _ _ _ _ (sym a.listed ∙ b.listed)))
+scripts_same : (n : Names) (old new : List Read) (s f t g : List ℕ) → AreRead (both n) old new (s ∷ (f ∷ [])) → AreRead (both n) old new (t ∷ (g ∷ [])) → s ≡ t
+scripts_same n old new s f t g a b = ap (λ (ts : List (List ℕ)). get_or ts 0 []) (texts_one (both n) _ _ old new a b)
 
-files_same : (n : Names) (old new : List FileRead) (s f t g : List ℕ) → AreRead n old new s f → AreRead n old new t g → f ≡ g
-files_same n old new s f t g a b =
-    same_bytes n.1 f g most_bytes (second_read _ _ _ _ (two_reads old _ _ _ _ (sym a.listed ∙ b.listed)))
+files_same : (n : Names) (old new : List Read) (s f t g : List ℕ) → AreRead (both n) old new (s ∷ (f ∷ [])) → AreRead (both n) old new (t ∷ (g ∷ [])) → f ≡ g
+files_same n old new s f t g a b = ap (λ (ts : List (List ℕ)). get_or ts 1 []) (texts_one (both n) _ _ old new a b)
 
 -- what was read did not fail
-read_whole : (n : Names) (old new : List FileRead) (s f : List ℕ) (k : ℕ) → AreRead n old new s f → FailsAt n old new k → ⊥
-read_whole n old new s f zero a fails =
-    let same : file_read n.0 most_bytes None ∷ [] ≡ file_read n.0 most_bytes (Some s) ∷ (file_read n.1 most_bytes (Some f) ∷ [])
-    = append_cancel_left old _ _ (sym fails ∙ (a.listed ∙ append_assoc old (file_read n.0 most_bytes (Some s) ∷ []) (file_read n.1 most_bytes (Some f) ∷ []))) in
-    omega (arith, ap (λ (rs : List FileRead). length rs) same)
-read_whole n old new s f (suc zero) a fails =
-    no_bytes n.1 f most_bytes (second_read _ _ _ _ (two_reads old _ _ _ _ (sym fails.1 ∙ a.listed)))
-read_whole n old new s f (suc (suc k)) a fails = fails
+read_whole : (n : Names) (old new : List Read) (s f : List ℕ) (k : ℕ) → AreRead (both n) old new (s ∷ (f ∷ [])) → FailsAt (both n) old new k → ⊥
+read_whole n old new s f k a fails = read_or_failed (both n) _ old new k a fails
 
 -- what was accepted is no refused module, and no refused script
-no_module_both : (n : Names) (old new : List FileRead) (s f : List ℕ) (tree : ModuleTree) → AreRead n old new s f → IsModule f tree
+no_module_both : (n : Names) (old new : List Read) (s f : List ℕ) (tree : ModuleTree) → AreRead (both n) old new (s ∷ (f ∷ [])) → IsModule f tree
     → RefusesModule n old new → ⊥
 no_module_both n old new s f tree a is r =
     r.no_module tree (subst (λ (bytes : List ℕ). IsModule bytes tree) (files_same n old new s f r.script r.file a r.read) is)
 
-no_script_both : NeverBoth → (n : Names) (old new : List FileRead) (s f : List ℕ) (c : List Command) (line : ℕ) → AreRead n old new s f → IsScriptOf s c
+no_script_both : NeverBoth → (n : Names) (old new : List Read) (s f : List ℕ) (c : List Command) (line : ℕ) → AreRead (both n) old new (s ∷ (f ∷ [])) → IsScriptOf s c
     → RefusesScript n old new line → ⊥
 no_script_both never n old new s f c line a is r =
     never r.script c line (subst (λ (bytes : List ℕ). IsScriptOf bytes c) (scripts_same n old new s f r.script r.file a r.read) is) r.refused
 
 -- what was accepted is one plan
-one_plan : OneModule → OneListing → (n : Names) (old new : List FileRead) (p q : Plan) → IsAccepted n old new p → IsAccepted n old new q → p ≡ q
+one_plan : OneModule → OneListing → (n : Names) (old new : List Read) (p q : Plan) → IsAccepted n old new p → IsAccepted n old new q → p ≡ q
 one_plan module_ listing n old new p q a b =
     let tree : a.tree ≡ b.tree
     = module_ b.file a.tree b.tree (subst (λ (bytes : List ℕ). IsModule bytes a.tree) (files_same n old new a.script a.file b.script b.file a.read b.read) a.is_module) b.is_module in
@@ -107,7 +81,7 @@ one_plan module_ listing n old new p q a b =
 not_both : (p : Plan) (f : Facts) → IsDone p f → IsLimit p f → ⊥
 not_both p f done limit = omega (arith, done.call.light, limit.full)
 
-module _ (names : Option Names) (old new : List FileRead) (before now sink_before sink_now : ℕ) (journal : List Entry) (left : Tables) (had has : Option (List ℕ)) (was is : Bool) where
+module _ (names : Option Names) (old new : List Read) (before now sink_before sink_now : ℕ) (journal : List Entry) (left : Tables) (had has : Option (List ℕ)) (was is : Bool) where
   abbrev Caused : End → Type 0
   Caused e = HasCause names old new before now e
 
@@ -117,7 +91,7 @@ module _ (names : Option Names) (old new : List FileRead) (before now sink_befor
   pub words_exact : (e : End) → Caused e → Left e → WordsExactly names e
   words_exact Done cause run none = absurd (no_names names (λ n. IsAccepted n old new run.plan) none run.accepted)
   words_exact Words cause run none = inl refl
-  words_exact (FileFault k) cause run none = absurd (no_names names (λ n. FailsAt n old new k) none cause.1)
+  words_exact (FileFault k) cause run none = absurd (no_names names (λ n. FailsAt (both n) old new k) none cause.1)
   words_exact (ModuleRefused k NotYet) cause run none = absurd (no_names names (λ n. RefusesModule n old new) none cause.1)
   words_exact (ScriptRefused line) cause run none = absurd (no_names names (λ n. RefusesScript n old new line) none cause)
   words_exact Limit cause run none = absurd (no_names names (λ n. IsAccepted n old new run.plan) none run.accepted)
@@ -134,7 +108,7 @@ module _ (names : Option Names) (old new : List FileRead) (before now sink_befor
   module_exact Done cause run n some r = absurd (ran_no_module n run.plan some run.accepted r)
   module_exact Words cause run n some r = absurd (not_none names n some cause.0)
   module_exact (FileFault k) cause run n some r =
-      absurd (read_whole n old new r.script r.file k r.read (the_names names (λ m. FailsAt m old new k) n some cause.1))
+      absurd (read_whole n old new r.script r.file k r.read (the_names names (λ m. FailsAt (both m) old new k) n some cause.1))
   module_exact (ModuleRefused k NotYet) cause run n some r = inl (ap (λ (file : ℕ). ModuleRefused file NotYet) cause.0)
   module_exact (ScriptRefused line) cause run n some r =
       let s = the_names names (λ m. RefusesScript m old new line) n some cause in
@@ -153,7 +127,7 @@ module _ (names : Option Names) (old new : List FileRead) (before now sink_befor
   script_exact never one Done cause run n line some r = absurd (ran_no_script never n run.plan line some run.accepted r)
   script_exact never one Words cause run n line some r = absurd (not_none names n some cause.0)
   script_exact never one (FileFault k) cause run n line some r =
-      absurd (read_whole n old new r.script r.file k r.read (the_names names (λ m. FailsAt m old new k) n some cause.1))
+      absurd (read_whole n old new r.script r.file k r.read (the_names names (λ m. FailsAt (both m) old new k) n some cause.1))
   script_exact never one (ModuleRefused k NotYet) cause run n line some r =
       absurd (no_module_both n old new r.script r.file r.tree r.read r.is_module (the_names names (λ m. RefusesModule m old new) n some cause.1))
   script_exact never one (ScriptRefused bad) cause run n line some r =
@@ -174,7 +148,7 @@ module _ (names : Option Names) (old new : List FileRead) (before now sink_befor
   done_exact module_ listing never Done cause run flag n q some a clear still ended = inl refl
   done_exact module_ listing never Words cause run flag n q some a clear still ended = absurd (not_none names n some cause.0)
   done_exact module_ listing never (FileFault k) cause run flag n q some a clear still ended =
-      absurd (read_whole n old new a.script a.file k a.read (the_names names (λ m. FailsAt m old new k) n some cause.1))
+      absurd (read_whole n old new a.script a.file k a.read (the_names names (λ m. FailsAt (both m) old new k) n some cause.1))
   done_exact module_ listing never (ModuleRefused k NotYet) cause run flag n q some a clear still ended =
       absurd (no_module_both n old new a.script a.file a.tree a.read a.is_module (the_names names (λ m. RefusesModule m old new) n some cause.1))
   done_exact module_ listing never (ScriptRefused line) cause run flag n q some a clear still ended =
@@ -191,7 +165,7 @@ module _ (names : Option Names) (old new : List FileRead) (before now sink_befor
       (subst (λ (p : Plan). IsDone p (facts p journal)) (ran_here module_ listing n run.plan q some run.accepted a) run.over) ended)
   limit_exact module_ listing never Words cause run flag n q some a clear still ended = absurd (not_none names n some cause.0)
   limit_exact module_ listing never (FileFault k) cause run flag n q some a clear still ended =
-      absurd (read_whole n old new a.script a.file k a.read (the_names names (λ m. FailsAt m old new k) n some cause.1))
+      absurd (read_whole n old new a.script a.file k a.read (the_names names (λ m. FailsAt (both m) old new k) n some cause.1))
   limit_exact module_ listing never (ModuleRefused k NotYet) cause run flag n q some a clear still ended =
       absurd (no_module_both n old new a.script a.file a.tree a.read a.is_module (the_names names (λ m. RefusesModule m old new) n some cause.1))
   limit_exact module_ listing never (ScriptRefused line) cause run flag n q some a clear still ended =

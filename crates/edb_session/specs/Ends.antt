@@ -2,7 +2,7 @@
 
 use Rattle.std.specs.Prelude.{◌≡◌, ℕ, zero, suc, ◌⊎◌, Bool, true, List, [], ◌++◌, Option, None, Some, IsSomeAnd, codes}
 use Rattle.std.specs.Fmt.{decimal}
-use Rattle.edb_io.specs.declared.reading.FileRead.{FileRead}
+use Rattle.edb_io.specs.OneRead.{Read}
 use Rattle.edb_io.specs.Faults.{Rose}
 use Rattle.edb_io.specs.Writes.{Appended, AppendedPart}
 use Rattle.edb_model.specs.declared.tables.Tables.{Tables}
@@ -11,21 +11,21 @@ use Rattle.edb_session.specs.declared.ending.End.{End}
 use Rattle.edb_session.specs.declared.ending.End.TheVariants.{Done, Words, FileFault, ModuleRefused, ScriptRefused, Limit, WriteFault, NoMemory}
 use Rattle.edb_session.specs.declared.ending.ModuleFault.TheVariants.{NotYet}
 use Rattle.edb_event.specs.declared.entry.Entry.{Entry}
-use Rattle.edb_session.specs.declared.top.LineWrite.{LineWrite}
-use Rattle.edb_session.specs.declared.top.LineWrite.TheVariants as line_write
+use Rattle.edb_files.specs.InOrder.{FailsAt}
+use Rattle.edb_files.specs.Lines.{IsKeptOrSet, IsLineWritten}
 use Rattle.edb_rules.specs.Plans.{Plan}
 use Rattle.edb_rules.specs.Facts.{Facts}
 use Rattle.edb_rules.specs.Notes.{facts}
-use Rattle.edb_rules.specs.Legal.{IsDone, IsLimit}
+use Rattle.edb_rules.specs.Legal.{IsDone, IsLimit, IsOver}
 use Rattle.edb_report.specs.Rendering.{transcript}
 use Rattle.edb_session.specs.Runs.{IsRun}
-use Rattle.edb_session.specs.Reading.{Names, FailsAt, RefusesModule, RefusesScript, IsAccepted}
+use Rattle.edb_session.specs.Reading.{Names, both, RefusesModule, RefusesScript, IsAccepted}
 
 -- The cause of an end, by the names in the words, the lists of reads and the counts of the files' faults.
-abbrev pub HasCause : Option Names → List FileRead → List FileRead → ℕ → ℕ → End → Type 0
+abbrev pub HasCause : Option Names → List Read → List Read → ℕ → ℕ → End → Type 0
 HasCause names old new before now Done = Unit {0}
 HasCause names old new before now Words = (names ≡ None) × (new ≡ old)
-HasCause names old new before now (FileFault k) = Rose before now × IsSomeAnd names (λ n. FailsAt n old new k)
+HasCause names old new before now (FileFault k) = Rose before now × IsSomeAnd names (λ n. FailsAt (both n) old new k)
 HasCause names old new before now (ModuleRefused k NotYet) = (k ≡ 1) × IsSomeAnd names (λ n. RefusesModule n old new)
 HasCause names old new before now (ScriptRefused line) = IsSomeAnd names (λ n. RefusesScript n old new line)
 HasCause names old new before now Limit = Unit {0}
@@ -33,54 +33,43 @@ HasCause names old new before now WriteFault = Unit {0}
 HasCause names old new before now NoMemory = Unit {0}
 
 -- What a session that ran leaves: the run of the plan that was read, over for this cause.
-pub record HasRun (IsCause : Plan → Facts → Type 0) (names : Option Names) (old new : List FileRead) (journal : List Entry) (left : Tables) : Type 0 where
+pub record HasRun (IsCause : Plan → Facts → Type 0) (names : Option Names) (old new : List Read) (journal : List Entry) (left : Tables) : Type 0 where
   pub plan : Plan
   pub accepted : IsSomeAnd names (λ n. IsAccepted n old new plan)
   pub run : IsRun plan journal left
   pub over : IsCause plan (facts plan journal)
-
-abbrev pub IsEither : Plan → Facts → Type 0
-IsEither plan f = IsDone plan f ⊎ IsLimit plan f
 
 -- nothing was run
 abbrev pub IsEmpty : List Entry → Tables → Type 0
 IsEmpty journal left = (journal ≡ []) × (left ≡ no_tables)
 
 -- The journal and the tables at an end.
-abbrev pub Leaves : Option Names → List FileRead → List FileRead → List Entry → Tables → End → Type 0
+abbrev pub Leaves : Option Names → List Read → List Read → List Entry → Tables → End → Type 0
 Leaves names old new journal left Done = HasRun IsDone names old new journal left
 Leaves names old new journal left Words = IsEmpty journal left
 Leaves names old new journal left (FileFault k) = IsEmpty journal left
 Leaves names old new journal left (ModuleRefused k fault) = IsEmpty journal left
 Leaves names old new journal left (ScriptRefused line) = IsEmpty journal left
 Leaves names old new journal left Limit = HasRun IsLimit names old new journal left
-Leaves names old new journal left WriteFault = HasRun IsEither names old new journal left
-Leaves names old new journal left NoMemory = IsEmpty journal left ⊎ HasRun IsEither names old new journal left
+Leaves names old new journal left WriteFault = HasRun IsOver names old new journal left
+Leaves names old new journal left NoMemory = IsEmpty journal left ⊎ HasRun IsOver names old new journal left
 
 -- the name of file k, counted from the script
-abbrev pub name_at : Option Names → ℕ → List ℕ
-name_at None k = []
-name_at (Some n) zero = n.0
-name_at (Some n) (suc k) = n.1
+abbrev pub name_in : Option Names → ℕ → List ℕ
+name_in None k = []
+name_in (Some n) zero = n.0
+name_in (Some n) (suc k) = n.1
 
 -- The line of a refusal.
 abbrev pub refusal_line : Option Names → End → List ℕ
 refusal_line names Words = codes "edb: words\n"
-refusal_line names (FileFault k) = (codes "edb: cannot read " ++ name_at names k) ++ codes "\n"
-refusal_line names (ModuleRefused k fault) = name_at names k ++ codes ": not yet\n"
-refusal_line names (ScriptRefused line) = ((name_at names 0 ++ codes ": line ") ++ decimal line) ++ codes "\n"
+refusal_line names (FileFault k) = (codes "edb: cannot read " ++ name_in names k) ++ codes "\n"
+refusal_line names (ModuleRefused k fault) = name_in names k ++ codes ": not yet\n"
+refusal_line names (ScriptRefused line) = ((name_in names 0 ++ codes ": line ") ++ decimal line) ++ codes "\n"
 refusal_line names Done = []
 refusal_line names Limit = []
 refusal_line names WriteFault = []
 refusal_line names NoMemory = []
-
--- the sink's flag is as it was, or it was set
-abbrev pub IsKeptOrSet : Bool → Bool → Type 0
-IsKeptOrSet was is = (is ≡ was) ⊎ (is ≡ true)
-
--- The line of a refusal was written, or a part of it where the sink's count rose and its flag was set.
-abbrev pub IsLineWritten : List ℕ → Option (List ℕ) → Option (List ℕ) → ℕ → ℕ → Bool → Bool → Type 0
-IsLineWritten line old new before now was is = (Appended old new line × (is ≡ was)) ⊎ (AppendedPart old new line × Rose before now × (is ≡ true))
 
 -- What was written, by what the sink had and has, by the counts of its faults and by its flag.
 abbrev pub IsWritten : Option Names → List Entry → Option (List ℕ) → Option (List ℕ) → ℕ → ℕ → Bool → Bool → End → Type 0
@@ -130,8 +119,8 @@ IsRefusal NoMemory = Unit {0}
 abbrev pub Performed : Plan → List Entry → Tables → End → Type 0
 Performed plan journal left Done = IsRun plan journal left × IsDone plan (facts plan journal)
 Performed plan journal left Limit = IsRun plan journal left × IsLimit plan (facts plan journal)
-Performed plan journal left WriteFault = IsRun plan journal left × IsEither plan (facts plan journal)
-Performed plan journal left NoMemory = IsEmpty journal left ⊎ (IsRun plan journal left × IsEither plan (facts plan journal))
+Performed plan journal left WriteFault = IsRun plan journal left × IsOver plan (facts plan journal)
+Performed plan journal left NoMemory = IsEmpty journal left ⊎ (IsRun plan journal left × IsOver plan (facts plan journal))
 Performed plan journal left _ = ⊥
 
 abbrev pub IsTranscript : List Entry → Option (List ℕ) → Option (List ℕ) → ℕ → ℕ → End → Type 0
@@ -140,8 +129,3 @@ IsTranscript journal old new before now Limit = Appended old new (transcript jou
 IsTranscript journal old new before now WriteFault = AppendedPart old new (transcript journal) × Rose before now
 IsTranscript journal old new before now NoMemory = AppendedPart old new (transcript journal)
 IsTranscript journal old new before now _ = ⊥
-
--- How the write of a refusal's line goes: it was tried, or memory was refused and nothing was written.
-abbrev pub TriesLine : List ℕ → Option (List ℕ) → Option (List ℕ) → ℕ → ℕ → Bool → Bool → LineWrite → Type 0
-TriesLine line old new before now was is line_write.Tried = IsLineWritten line old new before now was is
-TriesLine line old new before now was is line_write.NoMemory = (new ≡ old) × IsKeptOrSet was is

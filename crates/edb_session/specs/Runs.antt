@@ -7,7 +7,7 @@ use Rattle.edb_model.specs.Plain.{Plain, tables_of}
 use Rattle.edb_model.specs.Labels.{IsPlainRun}
 use Rattle.edb_event.specs.declared.call.Command.{Command}
 use Rattle.edb_event.specs.declared.entry.Entry.{Entry}
-use Rattle.edb_event.specs.Erasure.{erase}
+use Rattle.edb_rules.specs.Erasure.{erase}
 use Rattle.edb_rules.specs.Plans.{Plan}
 use Rattle.edb_rules.specs.Legal.{Legal, IsOneHanded}
 use Rattle.edb_session.specs.Headline.{StopsWereDue, NoneWasPassed, CommandsInOrder, AllCame, RepliesOfOneThread}

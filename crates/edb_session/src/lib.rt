@@ -3,8 +3,6 @@
 
 mod ending;
 mod render;
-#[cfg(test)]
-mod tests;
 mod top;
 
 pub use ending::{End, Ending, ModuleFault};

@@ -4,7 +4,7 @@ ghost use Rattle.std.specs.Prelude.{◌≡◌, ◌≤◌, true, OnOk, OnErr};
 ghost use Rattle.std.specs.Result.{IsErrOf};
 ghost use Rattle.edb_io.specs.Faults.{Rose};
 ghost use Rattle.edb_io.specs.Writes.{Appended, AppendedPart};
-ghost use Rattle.edb_session.specs.Ends.{IsKeptOrSet};
+ghost use Rattle.edb_files.specs.Lines.{IsKeptOrSet};
 ghost use Rattle.edb_report.specs.Rendering.{entry_text, transcript};
 
 use edb_event::Entry;

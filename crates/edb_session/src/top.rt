@@ -1,12 +1,15 @@
 //! The session.
 
-ghost use Rattle.std.specs.Prelude.{◌≡◌, ◌⊎◌, map, string_bytes, [], ◌∷◌, IfOk, IfErr, MatchOption, IsSomeAnd};
+ghost use Rattle.std.specs.Prelude.{◌≡◌, ◌⊎◌, map, string_bytes, length, [], ◌∷◌, Some, IfOk, IfErr, MatchOption, IsSomeAnd};
 ghost use Rattle.std.specs.Option.{option_map};
-ghost use Rattle.edb_session.specs.Reading.{is_option, names_in, IsAccepted, ReadsUp};
+ghost use Rattle.edb_files.specs.Asking.{asked_of};
+ghost use Rattle.edb_files.specs.InOrder.{AreRead, ReadsUp};
+ghost use Rattle.edb_files.specs.Lines.{TriesLine};
+ghost use Rattle.edb_session.specs.Reading.{names_in, both, IsAccepted, ReadsSome};
 ghost use Rattle.edb_lang.specs.Syntax.{ModuleTree};
 ghost use Rattle.edb_small.specs.SmallModule.{IsModule};
 ghost use Rattle.edb_session.specs.Runs.{plan_with, IsRun};
-ghost use Rattle.edb_session.specs.Ends.{HasCause, Leaves, Performed, IsTranscript, IsEmpty, IsWritten, KeepsFlag, IsRefusal, TriesLine, name_at, refusal_line, status_of};
+ghost use Rattle.edb_session.specs.Ends.{HasCause, Leaves, Performed, IsTranscript, IsEmpty, IsWritten, KeepsFlag, IsRefusal, name_in, refusal_line, status_of};
 ghost use Rattle.edb_session.specs.Exact.{WordsExactly, ModuleExactly, ScriptExactly, DoneExactly, LimitExactly, IsComplete};
 ghost use Rattle.edb_model.specs.Plain.{no_tables};
 ghost use Rattle.edb_session.specs.Named.{names_of};
@@ -17,15 +20,15 @@ use crate::render::write_transcript;
 use crate::{End, Ending, ModuleFault};
 use edb_cmds::{one_listing, read_commands};
 use edb_event::{Command, Journal};
-use edb_io::{Files, ReadFault, Sink, SinkFault};
-use edb_lang::{Bytes, Module};
-use edb_model::{Checked, Code, Rows, Tables};
+use edb_files::{
+    AskedFile, LineWrite, MOST_BYTES, ReadsFault, is_option_word, read_in_order, write_line,
+};
+use edb_io::{Files, Sink, SinkFault};
+use edb_lang::{Bytes, Module, Rows};
+use edb_model::{Checked, Code, Tables};
 use edb_small::{modules_are_bounded, one_module, read_module};
 use edb_world::{Outcome, run_world};
 use std::alloc::{AllocError, Global};
-
-/// The most bytes that are read of a file: one more than it may have.
-const MOST_BYTES: u32 = 1_000_001;
 
 /// How many pure moves a slice has at most.
 const SLICE: u32 = 100;
@@ -40,21 +43,18 @@ pub(crate) struct Named<'a> {
     pub(crate) file: &'a str,
 }
 
+/// The texts that were read.
+#[derive(Drop)]
+struct Texts {
+    script: Bytes,
+    file: Bytes,
+}
+
 /// What was read and accepted.
 #[derive(Drop)]
 struct Accepted {
     code: Code,
     commands: Vec<Command>,
-}
-
-/// Whether a word is an option's.
-fn is_option_word(word: &str) -> bool
-    ensures { result ≡ is_option word.now }
-{
-    match word.as_bytes() {
-        [first, _, ..] => *first == b'-',
-        _ => false,
-    }
 }
 
 /// The names in the words, where they are exactly two names.
@@ -77,6 +77,47 @@ fn make_names(words: &[String]) -> Option<Named<'_>>
     }
 }
 
+/// The files that are read: the script, and then the FILE.
+fn both_files<'a>(named: Named<'a>) -> [AskedFile<'a>; 2]
+    ensures { map asked_of result ≡ both (names_of named.entry) }
+{
+    let most = MOST_BYTES;
+    [
+        AskedFile {
+            name: named.script,
+            most,
+        },
+        AskedFile {
+            name: named.file,
+            most,
+        },
+    ]
+}
+
+/// Two texts, each by its name.
+fn texts_of(mut texts: Vec<Bytes>) -> Texts
+    requires { length texts.items ≡ 2 }
+    ensures { texts.items ≡ result.script ∷ (result.file ∷ []) }
+{
+    let file = texts.swap_remove(1);
+    let script = texts.swap_remove(0);
+    Texts { script, file }
+}
+
+/// Reads the script and then the FILE; else tells how the session ends.
+fn read_both<F: Files>(alloc: Global, named: Named<'_>, files: &mut F) -> Result<Texts, End>
+    ensures ok { IfOk result (λ texts. AreRead (both (names_of named.entry)) (F.reads files.old) (F.reads files.new) (texts.script ∷ (texts.file ∷ []))) }
+    ensures err { IfErr result (λ end. HasCause (Some (names_of named.entry)) (F.reads files.old) (F.reads files.new) (F.faults files.old) (F.faults files.new) end) }
+    ensures refusal { IfErr result IsRefusal }
+    ensures reads { ReadsUp (both (names_of named.entry)) (F.reads files.old) (F.reads files.new) }
+{
+    match read_in_order(alloc, &both_files(named), files) {
+        Ok(texts) => Ok(texts_of(texts)),
+        Err(ReadsFault::Failed { file }) => Err(End::FileFault { file }),
+        Err(ReadsFault::NoMemory) => Err(End::NoMemory),
+    }
+}
+
 /// Reads the script and then the FILE, and accepts the module and then the script; else tells how the
 /// session ends.
 fn prepare<F: Files>(
@@ -88,21 +129,15 @@ fn prepare<F: Files>(
     ensures plan { IfOk result (λ a. IsPlan (plan_with a.code a.commands.items)) }
     ensures err { IfErr result (λ end. HasCause (option_map names_of names.entry) (F.reads files.old) (F.reads files.new) (F.faults files.old) (F.faults files.new) end) }
     ensures refusal { IfErr result IsRefusal }
-    ensures reads { ReadsUp (option_map names_of names.entry) (F.reads files.old) (F.reads files.new) }
+    ensures reads { ReadsSome (option_map names_of names.entry) (F.reads files.old) (F.reads files.new) }
 {
     modules_are_bounded();
     let Some(named) = names else {
         return Err(End::Words);
     };
-    let script = match files.read(alloc, named.script, MOST_BYTES) {
-        Ok(bytes) => bytes,
-        Err(ReadFault::Failed) => return Err(End::FileFault { file: 0 }),
-        Err(ReadFault::NoMemory) => return Err(End::NoMemory),
-    };
-    let file = match files.read(alloc, named.file, MOST_BYTES) {
-        Ok(bytes) => bytes,
-        Err(ReadFault::Failed) => return Err(End::FileFault { file: 1 }),
-        Err(ReadFault::NoMemory) => return Err(End::NoMemory),
+    let Texts { script, file } = match read_both(alloc, named, files) {
+        Ok(texts) => texts,
+        Err(end) => return Err(end),
     };
     let module = match find_module(alloc, &file) {
         Ok(Some(module)) => module,
@@ -226,7 +261,7 @@ fn perform<S: Sink>(alloc: Global, accepted: &Accepted, mut sink: S) -> (Ending,
 
 /// The name of a file, counted from the script.
 fn file_name<'a>(names: Option<Named<'a>>, file: u32) -> &'a str
-    ensures { result.now ≡ name_at (option_map names_of names.entry) file }
+    ensures { result.now ≡ name_in (option_map names_of names.entry) file }
 {
     match names {
         None => "",
@@ -266,29 +301,6 @@ fn refusal_text(alloc: Global, names: Option<Named<'_>>, end: End) -> Result<Byt
         End::Limit => Ok(line),
         End::WriteFault => Ok(line),
         End::NoMemory => Ok(line),
-    }
-}
-
-/// How writing the line of a refusal went.
-#[derive(Clone, Copy)]
-enum LineWrite {
-    /// It was written, or the sink failed.
-    Tried,
-    /// Memory was refused, and nothing was written.
-    NoMemory,
-}
-
-/// Writes a line, where it has any bytes.
-fn write_line<S: Sink>(line: &Bytes, sink: &mut S) -> LineWrite
-    ensures { TriesLine line.now (S.written sink.old) (S.written sink.new) (S.faults sink.old) (S.faults sink.new) (S.flagged sink.old) (S.flagged sink.new) result }
-{
-    if line.is_empty() {
-        return LineWrite::Tried;
-    }
-    match sink.write(line.as_slice()) {
-        Ok(()) => LineWrite::Tried,
-        Err(SinkFault::Failed) => LineWrite::Tried,
-        Err(SinkFault::NoMemory) => LineWrite::NoMemory,
     }
 }
 
@@ -350,7 +362,7 @@ fn run_session<F: Files, S: Sink>(
     ensures run { Leaves (names_in (map string_bytes words.now)) (F.reads files.old) (F.reads files.new) result.0.journal.entries result.0.tables result.0.end }
     ensures written { IsWritten (names_in (map string_bytes words.now)) result.0.journal.entries (S.written sink) (S.written result.1) (S.faults sink) (S.faults result.1) (S.flagged sink) (S.flagged result.1) result.0.end }
     ensures flag { KeepsFlag (S.flagged sink) (S.flagged result.1) result.0.end }
-    ensures reads { ReadsUp (names_in (map string_bytes words.now)) (F.reads files.old) (F.reads files.new) }
+    ensures reads { ReadsSome (names_in (map string_bytes words.now)) (F.reads files.old) (F.reads files.new) }
     ensures status { result.0.status ≡ status_of result.0.end }
 {
     let names = make_names(words);
@@ -362,7 +374,7 @@ fn run_session<F: Files, S: Sink>(
 
 /// Runs a session to its end.
 ///
-/// The words are a script's name and a FILE's (`Words`, status 2, where they aren't). The script is
+/// The words are a script's name and a FILE's (`Words`, status 2, if they aren't). The script is
 /// read first and then the FILE, each up to 1,000,001 bytes (`FileFault`, status 3, where a read
 /// fails). The FILE is a module of the small language (`ModuleRefused`, status 4); the script's lines
 /// are blank or give the commands of docs/COMMANDS.md, with one `start` among them (`ScriptRefused`,
@@ -370,7 +382,7 @@ fn run_session<F: Files, S: Sink>(
 /// run, in slices of at most 100 moves, until all are answered and no process can go on (`Done`,
 /// status 0) or the journal's weight reaches 100,000 (`Limit`, status 6). Then the transcript is
 /// written, one write for each entry that has lines; after a write that fails no more is written
-/// (`WriteFault`, status 7). `NoMemory`, status 8, comes where memory was refused. A refusal writes
+/// (`WriteFault`, status 7). `NoMemory`, status 8, comes if it is out of memory. A refusal writes
 /// its one line, and a fault of that write changes nothing. The sink is handed back.
 /// docs/DEFINITIONS.md says where each of these words is defined.
 pub fn session<F: Files, S: Sink + Drop>(
@@ -392,10 +404,10 @@ pub fn session<F: Files, S: Sink + Drop>(
     // refusal's line.
     ensures written { IsWritten (names_in (map string_bytes words.now)) result.0.journal.entries (S.written sink) (S.written result.1) (S.faults sink) (S.faults result.1) (S.flagged sink) (S.flagged result.1) result.0.end }
     ensures flag { KeepsFlag (S.flagged sink) (S.flagged result.1) result.0.end }
-    ensures reads { ReadsUp (names_in (map string_bytes words.now)) (F.reads files.old) (F.reads files.new) }
+    ensures reads { ReadsSome (names_in (map string_bytes words.now)) (F.reads files.old) (F.reads files.new) }
     ensures status { result.0.status ≡ status_of result.0.end }
 
-    // Each end but that of a fault and that of refused memory comes exactly where its cause holds.
+    // Each end but those of faults and of no memory comes wherever its cause holds, unless it is out of memory.
     ensures exact_words { WordsExactly (names_in (map string_bytes words.now)) result.0.end }
     ensures exact_module { ModuleExactly (names_in (map string_bytes words.now)) (F.reads files.old) (F.reads files.new) result.0.end }
     ensures exact_script { ScriptExactly (names_in (map string_bytes words.now)) (F.reads files.old) (F.reads files.new) result.0.end }

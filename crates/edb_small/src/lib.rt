@@ -2,8 +2,6 @@
 //! language. `specs/` says which texts are, and of which module.
 #![tactic(auto, using(edb_lang::proofs::Lists::lists))]
 
-#[cfg(test)]
-mod checks;
 mod conditions;
 mod functions;
 mod heads;

@@ -1,8 +1,8 @@
 -- Single cases of the definitions, each by computation; all tokens stand on line 1.
 
 use Rattle.std.proofs.Common.{◌≡◌, ℕ, pos, negsuc, List, [], ◌∷◌, Some, refl}
-use Rattle.edb_syntax.specs.declared.operation.UnaryOp.TheVariants.{Minus}
-use Rattle.edb_syntax.specs.declared.operation.BinaryOp.TheVariants.{Add, Multiply, GreaterThan}
+use Rattle.edb_lang.specs.declared.operators.UnaryOp.TheVariants.{Minus}
+use Rattle.edb_lang.specs.declared.operators.BinaryOp.TheVariants.{Add, Multiply, GreaterThan}
 use Rattle.edb_syntax.specs.declared.operation.Operation.TheVariants.{LocalCall, FunCall}
 use Rattle.edb_syntax.specs.Patterns.{Pat}
 use Rattle.edb_syntax.specs.Patterns as pattern

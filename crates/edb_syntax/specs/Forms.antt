@@ -1,8 +1,8 @@
 -- The forms of expressions that are an operation on operands, each by its own name.
 
 use Rattle.std.specs.Prelude.{ℕ}
-use Rattle.edb_syntax.specs.declared.operation.UnaryOp.{UnaryOp}
-use Rattle.edb_syntax.specs.declared.operation.BinaryOp.{BinaryOp}
+use Rattle.edb_lang.specs.declared.operators.UnaryOp.{UnaryOp}
+use Rattle.edb_lang.specs.declared.operators.BinaryOp.{BinaryOp}
 use Rattle.edb_syntax.specs.declared.operation.Operation.TheVariants as operation
 use Rattle.edb_syntax.specs.Syntax.{Exp, Exps, atom, apply, none, more}
 

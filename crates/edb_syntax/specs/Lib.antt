@@ -1,6 +1,8 @@
 pub mod Patterns
 pub mod Syntax
 pub mod Forms
+pub mod Lookup
+pub mod FunForms
 pub mod Depths
 pub mod Sizes
 pub mod OperationCodes

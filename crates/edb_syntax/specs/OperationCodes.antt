@@ -4,10 +4,10 @@ use Rattle.std.specs.Prelude.{◌≡◌, ℕ, zero, suc, List, [], ◌∷◌, sl
 use Rattle.std.proofs.Common.{ap}
 use base.Stored.{Gv, gnil, gnum, gcons}
 use Rattle.edb_lang.specs.Stored.{number, stored_name, name_in, name_back}
-use Rattle.edb_syntax.specs.declared.operation.UnaryOp.{UnaryOp}
-use Rattle.edb_syntax.specs.declared.operation.UnaryOp.TheVariants as unary
-use Rattle.edb_syntax.specs.declared.operation.BinaryOp.{BinaryOp}
-use Rattle.edb_syntax.specs.declared.operation.BinaryOp.TheVariants as binary
+use Rattle.edb_lang.specs.declared.operators.UnaryOp.{UnaryOp}
+use Rattle.edb_lang.specs.declared.operators.UnaryOp.TheVariants as unary
+use Rattle.edb_lang.specs.declared.operators.BinaryOp.{BinaryOp}
+use Rattle.edb_lang.specs.declared.operators.BinaryOp.TheVariants as binary
 use Rattle.edb_syntax.specs.declared.operation.Operation.{Operation}
 use Rattle.edb_syntax.specs.declared.operation.Operation.TheVariants.{Tuple, List as ListOf, ListWithTail, Unary, Binary, Send, LocalCall, RemoteCall, FunCall}
 

@@ -5,43 +5,10 @@ ghost use Rattle.edb_syntax.specs.Syntax.{exps_of};
 ghost use Rattle.edb_syntax.specs.Forms as forms;
 
 use crate::expression::{Expr, ExprNode};
-use crate::operation::{BinaryOp, Operation, UnaryOp};
+use crate::operation::Operation;
 use std::alloc::{AllocError, Global};
 
 impl Expr {
-    /// An operator before its operand.
-    pub fn unary(alloc: Global, line: u32, op: UnaryOp, operand: Expr) -> Result<Expr, AllocError>
-        ensures { IfOk result (λ e. e ≡ forms.unary line op operand) }
-    {
-        let operands = Vec::from_array(alloc, [operand])?;
-        let operation = Operation::Unary(op);
-        Ok(Expr::new(line, ExprNode::Apply(operation, operands)))
-    }
-
-    /// An operator between its operands.
-    pub fn binary(
-        alloc: Global,
-        line: u32,
-        op: BinaryOp,
-        left: Expr,
-        right: Expr,
-    ) -> Result<Expr, AllocError>
-        ensures { IfOk result (λ e. e ≡ forms.binary line op left right) }
-    {
-        let operands = Vec::from_array(alloc, [left, right])?;
-        let operation = Operation::Binary(op);
-        Ok(Expr::new(line, ExprNode::Apply(operation, operands)))
-    }
-
-    /// `P ! M`
-    pub fn send(alloc: Global, line: u32, to: Expr, message: Expr) -> Result<Expr, AllocError>
-        ensures { IfOk result (λ e. e ≡ forms.send line to message) }
-    {
-        let operands = Vec::from_array(alloc, [to, message])?;
-        let operation = Operation::Send;
-        Ok(Expr::new(line, ExprNode::Apply(operation, operands)))
-    }
-
     /// `[A, B | T]`
     pub fn list_with_tail(line: u32, elements: Vec<Expr>, tail: Expr) -> Result<Expr, AllocError>
         ensures { IfOk result (λ e. e ≡ forms.list_with_tail line (exps_of elements.items) tail) }

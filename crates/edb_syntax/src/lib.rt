@@ -11,14 +11,12 @@ mod operation;
 mod pattern;
 mod qualifier;
 mod sequence;
-#[cfg(test)]
-mod tests;
 
 pub use clause::{CatchClause, Clause};
 pub use expression::{Expr, ExprNode};
 pub use guard::{Alternative, Guard, GuardTest};
 pub use modules::{Export, Function, Module};
-pub use operation::{BinaryOp, Operation, UnaryOp};
+pub use operation::Operation;
 pub use pattern::{Pattern, PatternNode};
 pub use qualifier::{Qualifier, QualifierNode};
 pub use sequence::Sequence;

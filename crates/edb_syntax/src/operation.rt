@@ -3,74 +3,8 @@
 ghost use Rattle.std.specs.Prelude.{◌≡◌, IfOk, nat_le};
 ghost use Rattle.edb_syntax.specs.Depths.{name_depth};
 
-use edb_lang::Name;
+use edb_lang::{BinaryOp, Name, UnaryOp};
 use std::alloc::{AllocError, Global};
-
-/// An operator before its operand.
-#[derive(Clone, Copy, PartialEq, Eq, Debug)]
-pub enum UnaryOp {
-    /// `+`
-    Plus,
-    /// `-`
-    Minus,
-    /// `bnot`
-    BitNot,
-    /// `not`
-    Not,
-}
-
-/// An operator between two operands, both of which are evaluated.
-#[derive(Clone, Copy, PartialEq, Eq, Debug)]
-pub enum BinaryOp {
-    /// `/`, which the checker refuses
-    Divide,
-    /// `*`
-    Multiply,
-    /// `div`
-    Div,
-    /// `rem`
-    Rem,
-    /// `band`
-    BitAnd,
-    /// `and`
-    And,
-    /// `+`
-    Add,
-    /// `-`
-    Subtract,
-    /// `bor`
-    BitOr,
-    /// `bxor`
-    BitXor,
-    /// `bsl`
-    ShiftLeft,
-    /// `bsr`
-    ShiftRight,
-    /// `or`
-    Or,
-    /// `xor`
-    Xor,
-    /// `++`
-    Append,
-    /// `--`
-    Remove,
-    /// `==`
-    Equal,
-    /// `/=`
-    Unequal,
-    /// `=<`
-    AtMost,
-    /// `<`
-    LessThan,
-    /// `>=`
-    AtLeast,
-    /// `>`
-    GreaterThan,
-    /// `=:=`
-    ExactlyEqual,
-    /// `=/=`
-    ExactlyUnequal,
-}
 
 /// What is done with operands, which are evaluated from left to right.
 #[derive(Drop)]

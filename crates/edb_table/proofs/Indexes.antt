@@ -1,4 +1,4 @@
--- The index of a built-in is its place in its module's table, behind the tables before.
+-- The index of a built-in is its place in its module's table, after the tables before.
 use Rattle.std.proofs.Common.{◌≡◌, ℕ, suc, ◌+◌, ◌<◌, Bool, true, false, cond, not, ◌&&◌, ltb, List, [], ◌∷◌, ◌++◌, length, map, Option, Some, None, IfSome, IfNone, Decides, codes, bytes_eq, position, option_map, refl, sym, ap, subst, ◌∙◌, arith}
 use Rattle.std.specs.List.{position_or_len}
 use Rattle.std.specs.Option.{option_or}
@@ -30,7 +30,7 @@ module _ {A : Type 0} (p : A → Bool) where
   from_zero None = refl
   from_zero (Some i) = let e : i ≡ 0 + i = omega arith in ap Some e
 
-  -- a second list is read where the first has none
+  -- a second list is read if the first has none
   position-append : (xs ys : List A) → position p (xs ++ ys) ≡ option_or (position p xs) (option_map (λ i. length xs + i) (position p ys))
   position-append [] ys = from_zero (position p ys)
   position-append (x ∷ xs) ys = rw (position-cons x (xs ++ ys), position-append xs ys, position-cons x xs) (by (p x) (position p xs) (position p ys))
@@ -75,7 +75,7 @@ indexed asked (Some at) e =
     record { index = e; found = here; within = slice_get_within built_ins at asked here; none = tt }
 indexed asked None e = record { index = e; found = tt; within = tt; none = read_none same_built_in same_built_in-Decides asked built_ins (sym e) }
 
--- what was read in the front, or else behind so many
+-- what was read in the front, or else after so many
 abbrev joined : Option ℕ → ℕ → Option ℕ → Option ℕ
 joined front before behind = option_or front (option_map (λ i. before + i) behind)
 
@@ -118,7 +118,7 @@ differ home other apart = by (bytes_eq home other) refl
     by true e = absurd (apart ((bytes_eq-Decides home other).0 e))
     by false e = refl
 
--- so in each module the index is the place in its table, behind the tables before
+-- so in each module the index is the place in its table, after the tables before
 module _ (home : List ℕ) (key : Key) where
   pub in_erlang : home ≡ codes "erlang" → index_of (home, key) ≡ place_of key erlang_keys
   in_erlang e = subst (λ (h : List ℕ). index_of (h, key) ≡ place_of key erlang_keys) (sym e)

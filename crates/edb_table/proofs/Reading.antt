@@ -1,4 +1,4 @@
--- Reading a list from the top for an item, where a test decides whether two items are one.
+-- Reading a list from the top for an item, if a test decides whether two items are one.
 use Rattle.std.proofs.Common.{◌≡◌, ℕ, ◌<◌, ◌≤◌, Bool, true, false, ltb, List, length, get_or, Some, None, Decides, position, refl, sym, ap, ◌∙◌, ⊎_elim, arith}
 use Rattle.std.specs.List.{position_or_len}
 use Rattle.std.proofs.lemmas.Bool.{cases_lt, lt-ltb}
@@ -26,7 +26,7 @@ module _ {A : Type 0} (same : A → A → Bool) (decides : (a b : A) → Decides
       (λ _. (decides asked (get_or items at asked)).1 (sym (get_or_from_slice_get items at asked asked here))) in
       rw (first, lt-ltb at (length items) inside) refl
 
-  -- where no place has it, reading finds none
+  -- if no place has it, reading finds none
   pub read_nowhere : (items : List A) → ((k : ℕ) → ¬ (StandsAt asked items k)) → position (same asked) items ≡ None
   read_nowhere items nowhere =
       let past : position_or_len (same asked) items ≡ length items = position_or_len_is (same asked) items (length items) asked (omega arith)
@@ -47,7 +47,7 @@ module _ {A : Type 0} (same : A → A → Bool) (decides : (a b : A) → Decides
       (λ ge. ge)
       (cases_lt (position_or_len (same asked) items) (length items))
 
-  -- where reading finds none, no place has it
+  -- if reading finds none, no place has it
   pub read_none : (items : List A) → position (same asked) items ≡ None → (k : ℕ) → ¬ (StandsAt asked items k)
   read_none items e k there =
       let past : length items ≤ position_or_len (same asked) items = past_all items e in

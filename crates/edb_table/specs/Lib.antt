@@ -1,3 +1,4 @@
 pub mod BuiltIns
+pub mod Entries
 pub mod Keys
 pub mod Marking

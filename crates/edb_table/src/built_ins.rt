@@ -18,7 +18,7 @@ fn behind(rows: usize, place: Option<usize>) -> Option<usize>
 }
 
 /// The index of the built-in with this module, name and arity: its place in its module's table plus
-/// the lengths of the tables before, in the order `erlang`, `int`, `io`, `lists`. None where there is
+/// the lengths of the tables before, in the order `erlang`, `int`, `io`, `lists`. None if there is
 /// no such built-in.
 pub fn find_built_in(module: &str, name: &str, arity: u8) -> Option<usize>
     ensures index { result ≡ index_of («module».now, (name.now, arity)) }

@@ -1,4 +1,5 @@
-//! Tables of functions by name and arity, and the built-ins with how each may be called.
+//! Tables by name and number: the built-ins by name and arity, with how each may be called, and the
+//! entries of a journal's text by word and number of fields.
 #![tactic(auto)]
 
 mod built_ins;
@@ -6,11 +7,11 @@ mod kinds;
 mod marking;
 mod rows;
 mod tables;
-#[cfg(test)]
-mod tests;
 
 pub use built_ins::find_built_in;
 pub use kinds::Marks;
 pub use marking::{marks, marks_of};
 pub use rows::{Row, find};
-pub use tables::{ERLANG, INT, IO, LISTS, find_erlang, find_int, find_io, find_lists};
+pub use tables::{
+    ENTRIES, ERLANG, INT, IO, LISTS, find_entry, find_erlang, find_int, find_io, find_lists,
+};

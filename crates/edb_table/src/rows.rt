@@ -13,7 +13,7 @@ pub struct Row {
 }
 
 /// The place of the row with this name and arity, which is the same as reading from the top finds;
-/// None where no row has both. The rows ascend by the bytes of their names, and those of one name by
+/// None if no row has both. The rows ascend by the bytes of their names, and those of one name by
 /// arity, so the search halves.
 pub fn find(rows: &[Row], name: &str, arity: u8) -> Option<usize>
     requires { IsTrue (ascending (keys_of rows.now)) }

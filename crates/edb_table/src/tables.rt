@@ -1,13 +1,14 @@
-//! The tables of built-ins, one for each module that has any, and a look-up over each. That a table
-//! ascends is computed when the crate is proved.
+//! The tables of built-ins, one for each module that has any, the table of a journal's entries, and a
+//! look-up over each. That a table ascends is computed when the crate is proved.
 
 ghost use Rattle.std.specs.Prelude.{◌≡◌, ◌<◌, IfSome};
 ghost use Rattle.edb_table.specs.BuiltIns.{erlang_keys, int_keys, io_keys, lists_keys};
+ghost use Rattle.edb_table.specs.Entries.{entry_keys};
 ghost use Rattle.edb_table.specs.Keys.{place_of};
 
 use crate::rows::{Row, find};
 
-/// Rows, each written as Erlang writes a function: its name, `/` and its arity.
+/// Rows, each written as Erlang writes a function: its name, `/` and its number.
 macro_rules! table {
     ($($name:literal / $arity:literal),* $(,)?) => {
         [$(Row { name: $name, arity: $arity }),*]
@@ -105,7 +106,33 @@ pub static LISTS: [Row; 26] = table![
     "zip" / 2,
 ];
 
-/// The place in `ERLANG` of the row with this name and arity; None where it has no such row.
+/// The words that begin the lines of a journal's text, each with the number of fields after it. A word
+/// has two rows if its line may end without its last field, and the number 0 if its last fields vary: a
+/// `start` has a list, and a `served` a command and its reply.
+pub static ENTRIES: [Row; 20] = table![
+    "advance" / 1,
+    "ask" / 2,
+    "did" / 4,
+    "enter" / 4,
+    "expire" / 2,
+    "forward" / 1,
+    "kill" / 2,
+    "lease" / 2,
+    "leave" / 1,
+    "load" / 3,
+    "ran" / 3,
+    "served" / 0,
+    "signal" / 1,
+    "signal" / 2,
+    "skip" / 2,
+    "start" / 0,
+    "stop" / 5,
+    "stop" / 6,
+    "took" / 1,
+    "trigger" / 6,
+];
+
+/// The place in `ERLANG` of the row with this name and arity; None if it has no such row.
 #[tactic(auto, unfolding(crate::specs::BuiltIns::erlang_keys))]
 pub fn find_erlang(name: &str, arity: u8) -> Option<usize>
     ensures place { result ≡ place_of (name.now, arity) erlang_keys }
@@ -114,7 +141,7 @@ pub fn find_erlang(name: &str, arity: u8) -> Option<usize>
     find(&ERLANG, name, arity)
 }
 
-/// The place in `INT` of the row with this name and arity; None where it has no such row.
+/// The place in `INT` of the row with this name and arity; None if it has no such row.
 #[tactic(auto, unfolding(crate::specs::BuiltIns::int_keys))]
 pub fn find_int(name: &str, arity: u8) -> Option<usize>
     ensures place { result ≡ place_of (name.now, arity) int_keys }
@@ -123,7 +150,7 @@ pub fn find_int(name: &str, arity: u8) -> Option<usize>
     find(&INT, name, arity)
 }
 
-/// The place in `IO` of the row with this name and arity; None where it has no such row.
+/// The place in `IO` of the row with this name and arity; None if it has no such row.
 #[tactic(auto, unfolding(crate::specs::BuiltIns::io_keys))]
 pub fn find_io(name: &str, arity: u8) -> Option<usize>
     ensures place { result ≡ place_of (name.now, arity) io_keys }
@@ -132,11 +159,20 @@ pub fn find_io(name: &str, arity: u8) -> Option<usize>
     find(&IO, name, arity)
 }
 
-/// The place in `LISTS` of the row with this name and arity; None where it has no such row.
+/// The place in `LISTS` of the row with this name and arity; None if it has no such row.
 #[tactic(auto, unfolding(crate::specs::BuiltIns::lists_keys))]
 pub fn find_lists(name: &str, arity: u8) -> Option<usize>
     ensures place { result ≡ place_of (name.now, arity) lists_keys }
     ensures within { IfSome result (λ place. place < 26) }
 {
     find(&LISTS, name, arity)
+}
+
+/// The place in `ENTRIES` of the row with this word and number of fields; None if it has no such row.
+#[tactic(auto, unfolding(crate::specs::Entries::entry_keys))]
+pub fn find_entry(word: &str, fields: u8) -> Option<usize>
+    ensures place { result ≡ place_of (word.now, fields) entry_keys }
+    ensures within { IfSome result (λ place. place < 20) }
+{
+    find(&ENTRIES, word, fields)
 }

@@ -1,6 +1,6 @@
--- A tuple that isn't empty is its elements behind a brace and commas.
+-- A tuple that isn't empty is its elements after a brace and commas.
 
-use Rattle.std.proofs.Common.{◌≡◌, ℕ, Bool, false, List, [], ◌∷◌, length, eqb, refl}
+use Rattle.std.proofs.Common.{◌≡◌, Bool, false, List, [], ◌∷◌, length, eqb, refl}
 use Rattle.edb_lang.specs.Terms.{Datum, of_list}
 use Rattle.edb_lang.specs.TermText.{text, tuple_text, items_text}
 

@@ -1,13 +1,20 @@
 //! Names and quoted bytes.
 
-ghost use Rattle.std.specs.Prelude.{◌≡◌, ◌++◌, ◌∷◌, [], ◌<◌, ◌/◌, ◌%◌, OnOk, take, drop, false};
+ghost use Rattle.std.specs.Prelude.{◌≡◌, ◌++◌, ◌∷◌, [], ◌<◌, ◌/◌, ◌%◌, OnOk, false};
 ghost use Rattle.std.specs.Fmt.{digit_glyph};
 ghost use Rattle.std.specs.List.{list_any, list_all, flat_map};
 ghost use Rattle.edb_lang.specs.TermText.{is_bare, is_name_byte, reserved_words, same_name, letter_of, escaped, quoted, atom_text};
 
 use std::alloc::AllocError;
 
-/// The letter that stands behind a backslash for a byte, where there is one.
+/// The words that are no atoms without quotes, in ascending order.
+const RESERVED_WORDS: [&'static [u8]; 29] = [
+    b"after", b"and", b"andalso", b"band", b"begin", b"bnot", b"bor", b"bsl", b"bsr", b"bxor",
+    b"case", b"catch", b"cond", b"div", b"else", b"end", b"fun", b"if", b"let", b"maybe", b"not",
+    b"of", b"or", b"orelse", b"receive", b"rem", b"try", b"when", b"xor",
+];
+
+/// The letter that follows a backslash for a byte, if it has one.
 fn letter(byte: u8) -> Option<u8>
     ensures { result ≡ letter_of byte }
 {
@@ -33,7 +40,7 @@ fn hex_digit(value: u8) -> u8
     if value < 10 { 48 + value } else { 87 + value }
 }
 
-/// Puts a byte as it stands between quotes.
+/// Puts a byte as it is written between quotes.
 pub(crate) fn put_escaped(out: &mut Vec<u8>, quote: u8, byte: u8) -> Result<(), AllocError>
     ensures { OnOk result (out.new.items ≡ out.old.items ++ escaped quote byte) }
 {
@@ -59,7 +66,7 @@ fn push_two(out: &mut Vec<u8>, first: u8, second: u8) -> Result<(), AllocError>
     Ok(())
 }
 
-/// Puts a byte as two hexadecimal digits behind `\x`.
+/// Puts a byte as `\x` and two hexadecimal digits.
 fn put_hex(out: &mut Vec<u8>, byte: u8) -> Result<(), AllocError>
     ensures { OnOk result (out.new.items ≡ out.old.items ++ 92 ∷ 120 ∷ digit_glyph false (byte / 16) ∷ digit_glyph false (byte % 16) ∷ []) }
 {
@@ -67,8 +74,10 @@ fn put_hex(out: &mut Vec<u8>, byte: u8) -> Result<(), AllocError>
     push_two(out, hex_digit(byte / 16), hex_digit(byte % 16))
 }
 
-/// Puts bytes between quotes.
-pub(crate) fn put_quoted(out: &mut Vec<u8>, quote: u8, bytes: &[u8]) -> Result<(), AllocError>
+/// Puts bytes between two quotes. The quote itself, the backslash, 127 and the bytes below 32 are
+/// escaped; all others are put as they are. `AllocError` only when out of memory: a part of the text may
+/// then be put.
+pub fn put_quoted(out: &mut Vec<u8>, quote: u8, bytes: &[u8]) -> Result<(), AllocError>
     ensures { OnOk result (out.new.items ≡ out.old.items ++ quoted quote bytes.now) }
 {
     out.push(quote)?;
@@ -77,7 +86,7 @@ pub(crate) fn put_quoted(out: &mut Vec<u8>, quote: u8, bytes: &[u8]) -> Result<(
     Ok(())
 }
 
-/// Puts bytes as they stand between quotes.
+/// Puts bytes as they are written between quotes.
 fn put_all_escaped(out: &mut Vec<u8>, quote: u8, bytes: &[u8]) -> Result<(), AllocError>
     ensures { OnOk result (out.new.items ≡ out.old.items ++ flat_map (escaped quote) bytes.now) }
 {
@@ -87,62 +96,28 @@ fn put_all_escaped(out: &mut Vec<u8>, quote: u8, bytes: &[u8]) -> Result<(), All
     Ok(())
 }
 
-/// A byte that a name may have behind its first one.
+/// A byte that a name may have after its first one.
 fn is_name(byte: u8) -> bool
     ensures { result ≡ is_name_byte byte }
 {
     byte.is_ascii_alphanumeric() || byte == b'_' || byte == b'@'
 }
 
+/// Whether a name is one of these words.
+fn is_among(words: &[&'static [u8]], name: &[u8]) -> bool
+    ensures { result ≡ list_any (λ word. same_name name.now word.now) words.now }
+{
+    words.iter().any(|word| name == *word)
+}
+
 /// Whether a name is a reserved word.
 fn is_reserved(name: &[u8]) -> bool
     ensures { result ≡ list_any (same_name name.now) reserved_words }
 {
-    is_early_word(name) || is_late_word(name)
+    is_among(&RESERVED_WORDS, name)
 }
 
-/// Whether a name is one of the first half of the reserved words.
-fn is_early_word(name: &[u8]) -> bool
-    ensures { result ≡ list_any (same_name name.now) (take 14 reserved_words) }
-{
-    name == b"after".as_slice()
-        || name == b"and".as_slice()
-        || name == b"andalso".as_slice()
-        || name == b"band".as_slice()
-        || name == b"begin".as_slice()
-        || name == b"bnot".as_slice()
-        || name == b"bor".as_slice()
-        || name == b"bsl".as_slice()
-        || name == b"bsr".as_slice()
-        || name == b"bxor".as_slice()
-        || name == b"case".as_slice()
-        || name == b"catch".as_slice()
-        || name == b"cond".as_slice()
-        || name == b"div".as_slice()
-}
-
-/// Whether a name is one of the second half.
-fn is_late_word(name: &[u8]) -> bool
-    ensures { result ≡ list_any (same_name name.now) (drop 14 reserved_words) }
-{
-    name == b"else".as_slice()
-        || name == b"end".as_slice()
-        || name == b"fun".as_slice()
-        || name == b"if".as_slice()
-        || name == b"let".as_slice()
-        || name == b"maybe".as_slice()
-        || name == b"not".as_slice()
-        || name == b"of".as_slice()
-        || name == b"or".as_slice()
-        || name == b"orelse".as_slice()
-        || name == b"receive".as_slice()
-        || name == b"rem".as_slice()
-        || name == b"try".as_slice()
-        || name == b"when".as_slice()
-        || name == b"xor".as_slice()
-}
-
-/// Whether all of these may stand behind a name's first byte.
+/// Whether all of these may follow a name's first byte.
 fn are_name(bytes: &[u8]) -> bool
     ensures { result ≡ list_all is_name_byte bytes.now }
 {
@@ -167,8 +142,8 @@ fn is_plain(name: &[u8]) -> bool
     }
 }
 
-/// Puts an atom: bare where it reads so, else in single quotes. Where memory is refused, a part of its
-/// text may stand behind the others.
+/// Puts an atom: without quotes if it reads as an atom so, else in single quotes. `AllocError` only when
+/// out of memory: a part of the text may then be put.
 pub fn put_atom(out: &mut Vec<u8>, name: &[u8]) -> Result<(), AllocError>
     ensures { OnOk result (out.new.items ≡ out.old.items ++ atom_text name.now) }
 {

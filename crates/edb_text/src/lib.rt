@@ -3,8 +3,6 @@
 
 mod atoms;
 mod terms;
-#[cfg(test)]
-mod tests;
 
-pub use atoms::put_atom;
+pub use atoms::{put_atom, put_quoted};
 pub use terms::{put_term, term_text};

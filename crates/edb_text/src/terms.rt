@@ -11,7 +11,7 @@ use crate::atoms::{put_atom, put_escaped};
 use edb_lang::{Bytes, Cell, FunValue, Node, Term};
 use std::alloc::{AllocError, Global};
 
-/// The byte of an integer that is shown as a character, where it is one.
+/// The byte of an integer that is shown as a character, if it is one.
 fn printable_integer(value: i128) -> Option<u8>
     ensures { result ≡ printable (term.int value) }
 {
@@ -27,7 +27,7 @@ fn printable_integer(value: i128) -> Option<u8>
     }
 }
 
-/// The byte of an element that is shown as a character, where it is one.
+/// The byte of an element that is shown as a character, if it is one.
 fn printable_element(element: &Term) -> Option<u8>
     ensures { result ≡ printable element.now }
 {
@@ -51,7 +51,7 @@ fn is_string(list: &Term) -> bool
     }
 }
 
-/// Puts a list's characters as they stand between double quotes.
+/// Puts a list's characters as they are written between double quotes.
 fn put_characters(out: &mut Vec<u8>, list: &Term) -> Result<(), AllocError>
     requires { IsSome (characters list.now) }
     ensures { OnOk result (out.new.items ≡ out.old.items ++ flat_map (escaped 34) (unwrap_or (characters list.now) [])) }
@@ -164,9 +164,9 @@ fn fun_text(alloc: Global, fun: &FunValue) -> Result<Vec<u8>, AllocError>
     }
 }
 
-/// Puts the text of a term behind the others. `strings`: lists of printable characters are shown as
-/// strings. `tail`: the term is what a list has behind its elements so far. Where memory is refused, a
-/// part of the text may stand there.
+/// Puts the text of a term after the others. `strings`: lists of printable characters are shown as
+/// strings. `tail`: the term is what a list has after its elements so far. `AllocError` only when out of
+/// memory: a part of the text may then be put.
 #[cycle(put_term)]
 pub fn put_term(
     out: &mut Vec<u8>,
@@ -228,7 +228,7 @@ fn put_string(out: &mut Vec<u8>, list: &Term) -> Result<(), AllocError>
     Ok(())
 }
 
-/// Puts a list's cell behind its bracket or comma.
+/// Puts a list's cell after its bracket or comma.
 #[cycle(put_term)]
 fn put_cell(
     out: &mut Vec<u8>,
@@ -269,7 +269,7 @@ fn put_tuple(
     Ok(())
 }
 
-/// The text of a term, lists of printable characters as strings; refused only for want of memory.
+/// The text of a term, lists of printable characters as strings; fails only when out of memory.
 pub fn term_text(alloc: Global, shown: &Term) -> Result<Bytes, AllocError>
     ensures { IfOk result (λ bytes. bytes ≡ term_text shown.now) }
 {

@@ -1,5 +1,4 @@
 pub mod WordLaws
-pub mod ReadLaws
 pub mod VerdictLaws
 pub mod LineLaws
 pub mod RefusalLaws

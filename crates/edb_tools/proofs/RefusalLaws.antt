@@ -1,46 +1,32 @@
 -- The line of a refusal is what was to be written.
 
-use Rattle.std.proofs.Common.{◌≡◌, ◌∙◌, inl, inr, ℕ, Bool, List, [], ◌∷◌, ◌++◌, Option, None, Some, append-nil, ap, refl, subst, sym}
-use Rattle.edb_io.specs.declared.reading.FileRead.{FileRead}
-use Rattle.edb_io.specs.Writes.{Appended}
+use Rattle.std.proofs.Common.{◌≡◌, inl, ℕ, Bool, List, [], Option, None, refl, subst, sym}
+use Rattle.edb_io.specs.OneRead.{Read}
+use Rattle.edb_files.specs.Lines.{IsLineWritten}
+use Rattle.edb_files.proofs.LineLaws.{nothing_written}
 use Rattle.edb_tools.specs.declared.ending.ToolEnd.{ToolEnd}
 use Rattle.edb_tools.specs.declared.ending.ToolEnd.TheVariants.{Done, Words, FileFault, ModuleRefused, WriteFault, NoMemory}
-use Rattle.edb_tools.specs.Plans.{Plan}
-use Rattle.edb_tools.specs.Ends.{IsEarly, IsLineWritten, IsWritten, name_in, refusal_line}
+use Rattle.edb_tools.specs.Requests.{Request}
+use Rattle.edb_tools.specs.Ends.{IsEarly, IsWritten, name_in, refusal_line}
 
-no_front : (front rest : List ℕ) → front ++ rest ≡ [] → front ≡ []
-no_front [] rest is = refl
-no_front (c ∷ front) rest is = absurd (cc)
-
--- of an empty line nothing was written
-nothing : (old new : Option (List ℕ)) (before now : ℕ) (was flag : Bool) → IsLineWritten [] old new before now was flag → Appended old new []
-nothing old new before now was flag (inl all) = all.0
-nothing old new before now was flag (inr part) = λ had h.
-    let p = part.0 had h in
-    p.2 ∙ ap (λ (t : List ℕ). Some (had ++ t)) (no_front p.0 p.1.0 p.1.1)
-
--- and nothing is written where the sink has what it had
-pub unwritten : (old new : Option (List ℕ)) → new ≡ old → Appended old new []
-unwritten old new is = λ had h. is ∙ (h ∙ ap Some (sym (append-nil had)))
-
-pub refused_written : (plan : Option Plan) (name : List ℕ) (e : ToolEnd) (reads_old reads_new : List FileRead) (old new : Option (List ℕ)) (before now : ℕ) (was flag : Bool)
-    → IsEarly e → name_in plan e ≡ name → IsLineWritten (refusal_line name e) old new before now was flag
-    → IsWritten plan reads_old reads_new old new before now was flag e
-refused_written plan name Done ro rn old new before now was flag early is w = absurd early
-refused_written plan name Words ro rn old new before now was flag early is w =
+pub refused_written : (request : Option Request) (name : List ℕ) (e : ToolEnd) (reads_old reads_new : List Read) (old new : Option (List ℕ)) (before now : ℕ) (was flag : Bool)
+    → IsEarly e → name_in request e ≡ name → IsLineWritten (refusal_line name e) old new before now was flag
+    → IsWritten request reads_old reads_new old new before now was flag e
+refused_written request name Done ro rn old new before now was flag early is w = absurd early
+refused_written request name Words ro rn old new before now was flag early is w =
     subst (λ (n : List ℕ). IsLineWritten (refusal_line n Words) old new before now was flag) (sym is) w
-refused_written plan name (FileFault k) ro rn old new before now was flag early is w =
+refused_written request name (FileFault k) ro rn old new before now was flag early is w =
     subst (λ (n : List ℕ). IsLineWritten (refusal_line n (FileFault k)) old new before now was flag) (sym is) w
-refused_written plan name (ModuleRefused k fault) ro rn old new before now was flag early is w =
+refused_written request name (ModuleRefused k fault) ro rn old new before now was flag early is w =
     subst (λ (n : List ℕ). IsLineWritten (refusal_line n (ModuleRefused k fault)) old new before now was flag) (sym is) w
-refused_written plan name WriteFault ro rn old new before now was flag early is w = absurd early
-refused_written plan name NoMemory ro rn old new before now was flag early is w = inl (nothing old new before now was flag w)
+refused_written request name WriteFault ro rn old new before now was flag early is w = absurd early
+refused_written request name NoMemory ro rn old new before now was flag early is w = inl (nothing_written old new before now was flag w)
 
--- what is written of one plan is written of the same plan
-pub written_as : (plan other : Option Plan) (reads_old reads_new : List FileRead) (old new : Option (List ℕ)) (before now : ℕ) (was flag : Bool) (e : ToolEnd)
-    → plan ≡ other → IsWritten plan reads_old reads_new old new before now was flag e → IsWritten other reads_old reads_new old new before now was flag e
-written_as plan other ro rn old new before now was flag e is w = subst (λ (p : Option Plan). IsWritten p ro rn old new before now was flag e) is w
+-- what is written for one request is written for the same request
+pub written_as : (request other : Option Request) (reads_old reads_new : List Read) (old new : Option (List ℕ)) (before now : ℕ) (was flag : Bool) (e : ToolEnd)
+    → request ≡ other → IsWritten request reads_old reads_new old new before now was flag e → IsWritten other reads_old reads_new old new before now was flag e
+written_as request other ro rn old new before now was flag e is w = subst (λ (r : Option Request). IsWritten r ro rn old new before now was flag e) is w
 
--- without a plan there is no file
-pub no_name : (plan : Option Plan) → None ≡ plan → name_in plan Words ≡ []
-no_name plan is = subst (λ (p : Option Plan). name_in p Words ≡ []) is refl
+-- without a request there is no file
+pub no_name : (request : Option Request) → None ≡ request → name_in request Words ≡ []
+no_name request is = subst (λ (r : Option Request). name_in r Words ≡ []) is refl

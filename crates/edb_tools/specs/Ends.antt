@@ -3,54 +3,59 @@
 use Rattle.std.specs.Prelude.{◌≡◌, ℕ, ◌⊎◌, Bool, true, List, [], ◌∷◌, ◌++◌, Option, None, Some, IsSomeAnd, codes}
 use Rattle.std.specs.Fmt.{decimal}
 use Rattle.std.specs.List.{flat_map}
-use Rattle.edb_io.specs.declared.reading.FileRead.{FileRead}
+use Rattle.edb_io.specs.OneRead.{Read}
 use Rattle.edb_io.specs.Faults.{Rose}
 use Rattle.edb_io.specs.Writes.{Appended, AppendedPart}
 use Rattle.edb_syntax.specs.Syntax.{ModuleTree}
 use Rattle.edb_check.specs.declared.fault.CheckKind.{CheckKind}
 use Rattle.edb_check.specs.declared.fault.CheckKind.TheVariants as kind
 use Rattle.edb_print.specs.Layout.{text_of}
-use Rattle.edb_verdict.specs.declared.fault.ModuleFault.TheVariants.{Scan, Form, Check, NotYet}
+use Rattle.edb_verdict.specs.declared.fault.ModuleFault.{ModuleFault}
+use Rattle.edb_verdict.specs.declared.fault.ModuleFault.TheVariants as fault
 use Rattle.edb_verdict.specs.Verdicts.{IsAccepted}
+use Rattle.edb_files.specs.InOrder.{Asked, AreRead, FailsAt, ReadsUp, name_at}
+use Rattle.edb_files.specs.Lines.{IsKeptOrSet, IsLineWritten}
 use Rattle.edb_tools.specs.declared.ending.ToolEnd.{ToolEnd}
 use Rattle.edb_tools.specs.declared.ending.ToolEnd.TheVariants.{Done, Words, FileFault, ModuleRefused, WriteFault, NoMemory}
-use Rattle.edb_tools.specs.declared.lines.LineWrite.{LineWrite}
-use Rattle.edb_verdict.specs.declared.fault.ModuleFault.{ModuleFault}
-use Rattle.edb_tools.specs.declared.lines.LineWrite.TheVariants as line_write
-use Rattle.edb_tools.specs.Plans.{Plan, check, format, names_of}
-use Rattle.edb_tools.specs.Reads.{AreRead, FailsAt, ReadsUp, name_at}
-use Rattle.edb_tools.specs.Verdicts.{Accepts, FirstFault, Refuses}
+use Rattle.edb_tools.specs.declared.words.Tool.{Tool}
+use Rattle.edb_tools.specs.declared.words.Tool.TheVariants.{Check, Format}
+use Rattle.edb_tools.specs.Requests.{Request}
+use Rattle.edb_tools.specs.Verdicts.{AreAccepted, Accepts, FirstFault, Refuses}
 
--- The cause of an end, by the plan, the lists of reads and the counts of the files' faults.
-abbrev pub HasCause : Option Plan → List FileRead → List FileRead → ℕ → ℕ → ToolEnd → Type 0
-HasCause plan old new before now Done = IsSomeAnd plan (λ p. Accepts (names_of p) old new)
-HasCause plan old new before now Words = plan ≡ None
-HasCause plan old new before now (FileFault k) = Rose before now × IsSomeAnd plan (λ p. FailsAt (names_of p) old new k)
-HasCause plan old new before now (ModuleRefused k fault) = IsSomeAnd plan (λ p. Refuses (names_of p) old new k fault)
-HasCause plan old new before now WriteFault = IsSomeAnd plan (λ p. Accepts (names_of p) old new)
-HasCause plan old new before now NoMemory = Unit {0}
+-- The cause of an end, by the request, the lists of reads and the counts of the files' faults.
+abbrev pub HasCause : Option Request → List Read → List Read → ℕ → ℕ → ToolEnd → Type 0
+HasCause request old new before now Done = IsSomeAnd request (λ r. Accepts r.files old new)
+HasCause request old new before now Words = request ≡ None
+HasCause request old new before now (FileFault k) = Rose before now × IsSomeAnd request (λ r. FailsAt r.files old new k)
+HasCause request old new before now (ModuleRefused k fault) = IsSomeAnd request (λ r. Refuses r.files old new k fault)
+HasCause request old new before now WriteFault = IsSomeAnd request (λ r. Accepts r.files old new)
+HasCause request old new before now NoMemory = Unit {0}
 
 -- all files were read
-abbrev pub AllRead : List (List ℕ) → List FileRead → List FileRead → Type 0
-AllRead names old new = (texts : List (List ℕ)) × AreRead names old new texts
+abbrev pub AllRead : List Asked → List Read → List Read → Type 0
+AllRead files old new = (texts : List (List ℕ)) × AreRead files old new texts
 
--- the files of a plan were read up to some place; where there is no plan, none was
-abbrev pub ReadsSome : Option Plan → List FileRead → List FileRead → Type 0
+-- the files of a request were read up to some place; without a request, none was
+abbrev pub ReadsSome : Option Request → List Read → List Read → Type 0
 ReadsSome None old new = new ≡ old
-ReadsSome (Some p) old new = ReadsUp (names_of p) old new
+ReadsSome (Some r) old new = ReadsUp r.files old new
 
 -- How the list of reads grew.
-abbrev pub HasReads : Option Plan → List FileRead → List FileRead → ToolEnd → Type 0
-HasReads plan old new Done = IsSomeAnd plan (λ p. AllRead (names_of p) old new)
-HasReads plan old new Words = new ≡ old
-HasReads plan old new (FileFault k) = IsSomeAnd plan (λ p. FailsAt (names_of p) old new k)
-HasReads plan old new (ModuleRefused k fault) = IsSomeAnd plan (λ p. AllRead (names_of p) old new)
-HasReads plan old new WriteFault = IsSomeAnd plan (λ p. AllRead (names_of p) old new)
-HasReads plan old new NoMemory = ReadsSome plan old new
+abbrev pub HasReads : Option Request → List Read → List Read → ToolEnd → Type 0
+HasReads request old new Done = IsSomeAnd request (λ r. AllRead r.files old new)
+HasReads request old new Words = new ≡ old
+HasReads request old new (FileFault k) = IsSomeAnd request (λ r. FailsAt r.files old new k)
+HasReads request old new (ModuleRefused k fault) = IsSomeAnd request (λ r. AllRead r.files old new)
+HasReads request old new WriteFault = IsSomeAnd request (λ r. AllRead r.files old new)
+HasReads request old new NoMemory = ReadsSome request old new
 
 -- the line of an accepted file
 abbrev pub ok_line : List ℕ → List ℕ
 ok_line name = name ++ codes ": ok\n"
+
+-- pieces, one after another
+abbrev pub joined : List (List ℕ) → List ℕ
+joined pieces = flat_map (λ piece. piece) pieces
 
 -- the text is a module without faults, and this is the text of its layout
 pub record HasLayout (text out : List ℕ) : Type 0 where
@@ -58,16 +63,17 @@ pub record HasLayout (text out : List ℕ) : Type 0 where
   pub accepted : IsAccepted text tree
   pub laid : out ≡ text_of tree
 
--- the file was read, and this is its layout
-pub record IsLaidOut (name : List ℕ) (old new : List FileRead) (out : List ℕ) : Type 0 where
-  pub text : List ℕ
-  pub read : AreRead (name ∷ []) old new (text ∷ [])
-  pub layout : HasLayout text out
+-- What a command writes of its files' texts: `check` the line of each file, and `fmt` the layout of the one file's module.
+abbrev pub Prints : Tool → List Asked → List (List ℕ) → List ℕ → Type 0
+Prints Check files texts out = out ≡ flat_map (λ file. ok_line file.name) files
+Prints Format files texts out = (text : List ℕ) × (texts ≡ text ∷ []) × HasLayout text out
 
--- what Done writes: the line of each file, where all are accepted; or the text of the file's module
-abbrev pub Prints : Plan → List FileRead → List FileRead → List ℕ → Type 0
-Prints (check names) old new out = Accepts names old new × (out ≡ flat_map ok_line names)
-Prints (format name) old new out = IsLaidOut name old new out
+-- all files were read and accepted, and this is what the command writes of them
+pub record IsOutput (request : Request) (old new : List Read) (out : List ℕ) : Type 0 where
+  pub texts : List (List ℕ)
+  pub read : AreRead request.files old new texts
+  pub accepted : AreAccepted texts
+  pub prints : Prints request.command request.files texts out
 
 -- the words of the kinds of faults
 abbrev pub kind_text : CheckKind → List ℕ
@@ -82,10 +88,10 @@ kind_text kind.BadGuard = codes "bad_guard"
 
 -- the line of a fault of the file with this name
 abbrev pub fault_line : List ℕ → ModuleFault → List ℕ
-fault_line name (Scan fault) = ((name ++ codes ": scan fault at byte ") ++ decimal fault.at) ++ codes "\n"
-fault_line name (Form fault) = ((((name ++ codes ": form ") ++ decimal fault.form) ++ codes " line ") ++ decimal fault.line) ++ codes "\n"
-fault_line name (Check fault) = ((((name ++ codes ": line ") ++ decimal fault.line) ++ codes " ") ++ kind_text fault.kind) ++ codes "\n"
-fault_line name NotYet = name ++ codes ": not yet\n"
+fault_line name (fault.Scan f) = ((name ++ codes ": scan fault at byte ") ++ decimal f.at) ++ codes "\n"
+fault_line name (fault.Form f) = ((((name ++ codes ": form ") ++ decimal f.form) ++ codes " line ") ++ decimal f.line) ++ codes "\n"
+fault_line name (fault.Check f) = ((((name ++ codes ": line ") ++ decimal f.line) ++ codes " ") ++ kind_text f.kind) ++ codes "\n"
+fault_line name fault.NotYet = name ++ codes ": not yet\n"
 
 -- the line of a refusal, the end's file having this name
 abbrev pub refusal_line : List ℕ → ToolEnd → List ℕ
@@ -96,12 +102,12 @@ refusal_line name (ModuleRefused k fault) = fault_line name fault
 refusal_line name WriteFault = []
 refusal_line name NoMemory = []
 
--- the names of a plan's files
-abbrev pub planned : Option Plan → List (List ℕ)
-planned None = []
-planned (Some p) = names_of p
+-- the files of a request
+abbrev pub files_of : Option Request → List Asked
+files_of None = []
+files_of (Some r) = r.files
 
--- the place of the file of an end, which is the first where it is about none
+-- the place of the file of an end, which is the first if it is about none
 abbrev pub file_of : ToolEnd → ℕ
 file_of Done = 0
 file_of Words = 0
@@ -111,45 +117,36 @@ file_of WriteFault = 0
 file_of NoMemory = 0
 
 -- the name of that file
-abbrev pub name_in : Option Plan → ToolEnd → List ℕ
-name_in plan end = name_at (planned plan) (file_of end)
-
--- the line was written, and the sink's flag is as it was; or a part of it, where the sink's count rose, and then its flag is set
-abbrev pub IsLineWritten : List ℕ → Option (List ℕ) → Option (List ℕ) → ℕ → ℕ → Bool → Bool → Type 0
-IsLineWritten line old new before now was is =
-    (Appended old new line × (is ≡ was)) ⊎ (AppendedPart old new line × Rose before now × (is ≡ true))
+abbrev pub name_in : Option Request → ToolEnd → List ℕ
+name_in request end = name_at (files_of request) (file_of end)
 
 -- all of what Done writes was written, by the lists of reads and by what the sink had and has
-abbrev pub WritesAll : Option Plan → List FileRead → List FileRead → Option (List ℕ) → Option (List ℕ) → Type 0
-WritesAll plan reads_old reads_new old new = IsSomeAnd plan (λ p. (out : List ℕ) × Prints p reads_old reads_new out × Appended old new out)
+abbrev pub WritesAll : Option Request → List Read → List Read → Option (List ℕ) → Option (List ℕ) → Type 0
+WritesAll request reads_old reads_new old new = IsSomeAnd request (λ r. (out : List ℕ) × IsOutput r reads_old reads_new out × Appended old new out)
 
 -- a part of it
-abbrev pub WritesPart : Option Plan → List FileRead → List FileRead → Option (List ℕ) → Option (List ℕ) → Type 0
-WritesPart plan reads_old reads_new old new = IsSomeAnd plan (λ p. (out : List ℕ) × Prints p reads_old reads_new out × AppendedPart old new out)
+abbrev pub WritesPart : Option Request → List Read → List Read → Option (List ℕ) → Option (List ℕ) → Type 0
+WritesPart request reads_old reads_new old new = IsSomeAnd request (λ r. (out : List ℕ) × IsOutput r reads_old reads_new out × AppendedPart old new out)
 
 -- What was written, by the lists of reads, by what the sink had and has, by the counts of its faults and by its flag.
-abbrev pub IsWritten : Option Plan → List FileRead → List FileRead → Option (List ℕ) → Option (List ℕ) → ℕ → ℕ → Bool → Bool → ToolEnd → Type 0
-IsWritten plan reads_old reads_new old new before now was is Done = WritesAll plan reads_old reads_new old new
-IsWritten plan reads_old reads_new old new before now was is Words = IsLineWritten (refusal_line (name_in plan Words) Words) old new before now was is
-IsWritten plan reads_old reads_new old new before now was is (FileFault k) =
-    IsLineWritten (refusal_line (name_in plan (FileFault k)) (FileFault k)) old new before now was is
-IsWritten plan reads_old reads_new old new before now was is (ModuleRefused k fault) =
-    IsLineWritten (refusal_line (name_in plan (ModuleRefused k fault)) (ModuleRefused k fault)) old new before now was is
-IsWritten plan reads_old reads_new old new before now was is WriteFault = WritesPart plan reads_old reads_new old new × Rose before now
-IsWritten plan reads_old reads_new old new before now was is NoMemory = Appended old new [] ⊎ WritesPart plan reads_old reads_new old new
-
--- the flag is as it was, or set
-abbrev pub IsNotCleared : Bool → Bool → Type 0
-IsNotCleared old new = (new ≡ old) ⊎ (new ≡ true)
+abbrev pub IsWritten : Option Request → List Read → List Read → Option (List ℕ) → Option (List ℕ) → ℕ → ℕ → Bool → Bool → ToolEnd → Type 0
+IsWritten request reads_old reads_new old new before now was is Done = WritesAll request reads_old reads_new old new
+IsWritten request reads_old reads_new old new before now was is Words = IsLineWritten (refusal_line (name_in request Words) Words) old new before now was is
+IsWritten request reads_old reads_new old new before now was is (FileFault k) =
+    IsLineWritten (refusal_line (name_in request (FileFault k)) (FileFault k)) old new before now was is
+IsWritten request reads_old reads_new old new before now was is (ModuleRefused k fault) =
+    IsLineWritten (refusal_line (name_in request (ModuleRefused k fault)) (ModuleRefused k fault)) old new before now was is
+IsWritten request reads_old reads_new old new before now was is WriteFault = WritesPart request reads_old reads_new old new × Rose before now
+IsWritten request reads_old reads_new old new before now was is NoMemory = Appended old new [] ⊎ WritesPart request reads_old reads_new old new
 
 -- The sink's flag.
 abbrev pub KeepsFlag : Bool → Bool → ToolEnd → Type 0
-KeepsFlag old new Done = new ≡ old
-KeepsFlag old new Words = IsNotCleared old new
-KeepsFlag old new (FileFault k) = IsNotCleared old new
-KeepsFlag old new (ModuleRefused k fault) = IsNotCleared old new
-KeepsFlag old new WriteFault = new ≡ true
-KeepsFlag old new NoMemory = IsNotCleared old new
+KeepsFlag was is Done = is ≡ was
+KeepsFlag was is Words = IsKeptOrSet was is
+KeepsFlag was is (FileFault k) = IsKeptOrSet was is
+KeepsFlag was is (ModuleRefused k fault) = IsKeptOrSet was is
+KeepsFlag was is WriteFault = is ≡ true
+KeepsFlag was is NoMemory = IsKeptOrSet was is
 
 -- The program's status.
 abbrev pub status_of : ToolEnd → ℕ
@@ -169,7 +166,7 @@ IsEarly (ModuleRefused k fault) = Unit {0}
 IsEarly WriteFault = ⊥
 IsEarly NoMemory = Unit {0}
 
--- the first of these texts with a fault is refused so, or memory was
+-- the first of these texts with a fault is refused so, or it is out of memory
 abbrev pub IsVerdict : List (List ℕ) → ToolEnd → Type 0
 IsVerdict texts Done = ⊥
 IsVerdict texts Words = ⊥
@@ -177,8 +174,3 @@ IsVerdict texts (FileFault k) = ⊥
 IsVerdict texts (ModuleRefused k fault) = FirstFault texts k fault
 IsVerdict texts WriteFault = ⊥
 IsVerdict texts NoMemory = Unit {0}
-
--- How the write of a refusal's line goes: it was tried, or memory was refused and nothing was written.
-abbrev pub TriesLine : List ℕ → Option (List ℕ) → Option (List ℕ) → ℕ → ℕ → Bool → Bool → LineWrite → Type 0
-TriesLine line old new before now was is line_write.Tried = IsLineWritten line old new before now was is
-TriesLine line old new before now was is line_write.NoMemory = new ≡ old

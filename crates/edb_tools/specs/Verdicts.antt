@@ -2,10 +2,10 @@
 
 use Rattle.std.specs.Prelude.{ℕ, zero, suc, List, [], ◌∷◌}
 use Rattle.edb_syntax.specs.Syntax.{ModuleTree}
-use Rattle.edb_io.specs.declared.reading.FileRead.{FileRead}
+use Rattle.edb_io.specs.OneRead.{Read}
 use Rattle.edb_verdict.specs.declared.fault.ModuleFault.{ModuleFault}
 use Rattle.edb_verdict.specs.Verdicts.{IsAccepted, HasFault}
-use Rattle.edb_tools.specs.Reads.{AreRead}
+use Rattle.edb_files.specs.InOrder.{Asked, AreRead}
 
 -- the text is a module without faults
 abbrev pub IsSomeModule : List ℕ → Type 0
@@ -23,13 +23,13 @@ FirstFault (text ∷ texts) zero fault = HasFault text fault
 FirstFault (text ∷ texts) (suc k) fault = IsSomeModule text × FirstFault texts k fault
 
 -- all files were read and accepted
-pub record Accepts (names : List (List ℕ)) (old new : List FileRead) : Type 0 where
+pub record Accepts (files : List Asked) (old new : List Read) : Type 0 where
   pub texts : List (List ℕ)
-  pub read : AreRead names old new texts
+  pub read : AreRead files old new texts
   pub accepted : AreAccepted texts
 
 -- all files were read, and file k is the first with a fault
-pub record Refuses (names : List (List ℕ)) (old new : List FileRead) (k : ℕ) (fault : ModuleFault) : Type 0 where
+pub record Refuses (files : List Asked) (old new : List Read) (k : ℕ) (fault : ModuleFault) : Type 0 where
   pub texts : List (List ℕ)
-  pub read : AreRead names old new texts
+  pub read : AreRead files old new texts
   pub first : FirstFault texts k fault

@@ -1,16 +1,21 @@
--- Requests, as contracts see them.
+-- Requests of the code, as contracts see them.
 
-use Rattle.std.specs.Prelude.{◌<◌, ◌^◌, length, map, string_bytes}
-use Rattle.edb_tools.specs.declared.words.Request.{Request}
-use Rattle.edb_tools.specs.declared.words.Request.TheVariants.{Check, Format}
-use Rattle.edb_tools.specs.Plans.{Plan, check, format}
+use Rattle.std.specs.Prelude.{◌≡◌, ℕ, ◌<◌, ◌^◌, length, map}
+use Rattle.edb_files.specs.Asking.{asked_of}
+use Rattle.edb_tools.specs.declared.words.AskedFor.{AskedFor}
+use Rattle.edb_tools.specs.declared.words.Tool.{Tool}
+use Rattle.edb_tools.specs.declared.words.Tool.TheVariants.{Check, Format}
+use Rattle.edb_tools.specs.Requests.{Request}
 
--- the plan that is asked for
-abbrev pub asked : Request → Plan
-asked (Check names) = check (map string_bytes names.now)
-asked (Format name) = format (string_bytes name.now)
+-- the request that it is
+abbrev pub seen : AskedFor → Request
+seen asked = record { command = asked.command; files = map asked_of asked.files.items }
 
--- each file has a number below 2^32
-abbrev pub IsFew : Request → Type 0
-IsFew (Check names) = length names.now < 2 ^ 32
-IsFew (Format name) = Unit {0}
+-- a command takes so many files
+abbrev pub Takes : Tool → ℕ → Type 0
+Takes Check count = Unit {0}
+Takes Format count = count ≡ 1
+
+-- the command takes its files, and each has a number below 2^32
+abbrev pub IsAsked : AskedFor → Type 0
+IsAsked asked = (length asked.files.items < 2 ^ 32) × Takes asked.command (length asked.files.items)

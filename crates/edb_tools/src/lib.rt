@@ -3,12 +3,8 @@
 #![tactic(auto)]
 
 mod ending;
-#[cfg(test)]
-mod layouts;
 mod lines;
 mod sources;
-#[cfg(test)]
-mod tests;
 mod top;
 mod words;
 

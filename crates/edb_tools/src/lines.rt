@@ -1,32 +1,35 @@
 //! The lines that the tool writes.
 
-ghost use Rattle.std.specs.Prelude.{◌≡◌, ◌≤◌, ◌++◌, map, string_bytes, true, codes, IfOk, OnOk, OnErr};
+ghost use Rattle.std.specs.Prelude.{◌≡◌, ◌≤◌, ◌++◌, map, true, codes, IfOk, OnOk, OnErr};
 ghost use Rattle.std.specs.Fmt.{decimal};
 ghost use Rattle.std.specs.List.{flat_map};
 ghost use Rattle.std.specs.Result.{IsErrOf};
 ghost use Rattle.edb_io.specs.Faults.{Rose};
 ghost use Rattle.edb_io.specs.Writes.{Appended, AppendedPart};
-ghost use Rattle.edb_tools.specs.Reads.{name_at};
-ghost use Rattle.edb_tools.specs.Ends.{IsNotCleared, fault_line, file_of, kind_text, ok_line, refusal_line, TriesLine};
+ghost use Rattle.edb_files.specs.Asking.{asked_of};
+ghost use Rattle.edb_files.specs.InOrder.{name_at};
+ghost use Rattle.edb_files.specs.Lines.{TriesLine};
+ghost use Rattle.edb_tools.specs.Ends.{fault_line, file_of, joined, kind_text, ok_line, refusal_line};
 
 use crate::ToolEnd;
 use edb_check::CheckKind;
+use edb_files::{AskedFile, LineWrite, write_line};
 use edb_io::{Sink, SinkFault};
 use edb_lang::Bytes;
 use edb_verdict::ModuleFault;
 use std::alloc::{AllocError, Global};
 
-/// The name of the end's file, which is one of these; an empty text where it is about none.
-pub(crate) fn name_of(names: &[String], end: ToolEnd) -> &str
-    ensures { result.now ≡ name_at (map string_bytes names.now) (file_of end) }
+/// The name of the end's file, which is one of these; an empty text if it is about none.
+pub(crate) fn name_of<'a>(files: &[AskedFile<'a>], end: ToolEnd) -> &'a str
+    ensures { result.now ≡ name_at (map asked_of files.now) (file_of end) }
 {
-    match names.get(place_of(end) as usize) {
-        Some(name) => name.as_str(),
+    match files.get(place_of(end) as usize) {
+        Some(file) => file.name,
         None => "",
     }
 }
 
-/// The place of the end's file, counted from 0; 0 where it is about none.
+/// The place of the end's file, counted from 0; 0 if it is about none.
 fn place_of(end: ToolEnd) -> u32
     ensures { result ≡ file_of end }
 {
@@ -56,7 +59,7 @@ fn kind_word(kind: CheckKind) -> &'static [u8]
     }
 }
 
-/// The line of a fault of the file with this name; refused only for want of memory.
+/// The line of a fault of the file with this name. `Err` comes only out of memory.
 fn fault_text(alloc: Global, name: &str, fault: ModuleFault) -> Result<Bytes, AllocError>
     ensures { IfOk result (λ line. line ≡ fault_line name.now fault) }
 {
@@ -91,7 +94,7 @@ fn fault_text(alloc: Global, name: &str, fault: ModuleFault) -> Result<Bytes, Al
     }
 }
 
-/// The line of an end whose file has this name, without a line an empty text; refused only for want of memory.
+/// The line of an end whose file has this name, or an empty text. `Err` comes only out of memory.
 fn refusal_text(alloc: Global, name: &str, end: ToolEnd) -> Result<Bytes, AllocError>
     ensures { IfOk result (λ line. line ≡ refusal_line name.now end) }
 {
@@ -110,41 +113,22 @@ fn refusal_text(alloc: Global, name: &str, end: ToolEnd) -> Result<Bytes, AllocE
     }
 }
 
-/// How writing the line of a refusal went.
-#[derive(Clone, Copy)]
-pub(crate) enum LineWrite {
-    /// It was written, or the sink failed.
-    Tried,
-    /// Memory was refused, and nothing was written.
-    NoMemory,
-}
-
-/// Writes the line of an end whose file has this name, in one write, and nothing where it has none.
+/// Writes the line of an end whose file has this name, in one write, and nothing if it has none.
 pub(crate) fn write_refusal<S: Sink>(
     alloc: Global,
     name: &str,
     end: ToolEnd,
     sink: &mut S,
 ) -> LineWrite
-    ensures tries { TriesLine (refusal_line name.now end) (S.written sink.old) (S.written sink.new) (S.faults sink.old) (S.faults sink.new) (S.flagged sink.old) (S.flagged sink.new) result }
-    ensures flag { IsNotCleared (S.flagged sink.old) (S.flagged sink.new) }
+    ensures { TriesLine (refusal_line name.now end) (S.written sink.old) (S.written sink.new) (S.faults sink.old) (S.faults sink.new) (S.flagged sink.old) (S.flagged sink.new) result }
 {
     match refusal_text(alloc, name, end) {
         Err(_) => LineWrite::NoMemory,
-        Ok(line) => {
-            if line.is_empty() {
-                return LineWrite::Tried;
-            }
-            match sink.write(line.as_slice()) {
-                Ok(()) => LineWrite::Tried,
-                Err(SinkFault::Failed) => LineWrite::Tried,
-                Err(SinkFault::NoMemory) => LineWrite::NoMemory,
-            }
-        }
+        Ok(line) => write_line(&line, sink),
     }
 }
 
-/// The line of an accepted file; refused only for want of memory.
+/// The line of an accepted file. `Err` comes only out of memory.
 fn ok_text(alloc: Global, name: &str) -> Result<Bytes, AllocError>
     ensures { IfOk result (λ line. line ≡ ok_line name.now) }
 {
@@ -153,39 +137,29 @@ fn ok_text(alloc: Global, name: &str) -> Result<Bytes, AllocError>
     Ok(line)
 }
 
-/// Writes the line of an accepted file, in one write. `Failed` comes where the write failed, and
-/// `NoMemory` where memory for the line or in the write was refused.
-fn write_ok<S: Sink>(alloc: Global, name: &str, sink: &mut S) -> Result<(), SinkFault>
-    ensures ok { OnOk result (Appended (S.written sink.old) (S.written sink.new) (ok_line name.now)) }
-    ensures part { OnErr result (AppendedPart (S.written sink.old) (S.written sink.new) (ok_line name.now)) }
-    ensures later { S.faults sink.old ≤ S.faults sink.new }
-    ensures cause { IsErrOf result SinkFault.Failed → Rose (S.faults sink.old) (S.faults sink.new) }
-    ensures kept { OnOk result (S.flagged sink.new ≡ S.flagged sink.old) }
-    ensures set { IsErrOf result SinkFault.Failed → S.flagged sink.new ≡ true }
-    ensures flag { IsNotCleared (S.flagged sink.old) (S.flagged sink.new) }
+/// The lines of accepted files, in order, each a piece. `Err` comes only out of memory.
+pub(crate) fn ok_texts(alloc: Global, files: &[AskedFile<'_>]) -> Result<Vec<Bytes>, AllocError>
+    ensures { IfOk result (λ lines. joined lines.items ≡ flat_map (λ file. ok_line file.name) (map asked_of files.now)) }
 {
-    match ok_text(alloc, name) {
-        Err(_) => Err(SinkFault::NoMemory),
-        Ok(line) => sink.write(line.as_slice()),
+    let mut lines = Vec::new(alloc);
+    for file in files {
+        let line = ok_text(alloc, file.name)?;
+        lines.push(line)?;
     }
+    Ok(lines)
 }
 
-/// Writes the line of each of these files, in order, one write a file; after a write that isn't Ok
-/// no more is written, and the fault is that write's.
-pub(crate) fn write_all_ok<S: Sink>(
-    alloc: Global,
-    names: &[String],
-    sink: &mut S,
-) -> Result<(), SinkFault>
-    ensures ok { OnOk result (Appended (S.written sink.old) (S.written sink.new) (flat_map ok_line (map string_bytes names.now))) }
-    ensures part { OnErr result (AppendedPart (S.written sink.old) (S.written sink.new) (flat_map ok_line (map string_bytes names.now))) }
+/// Writes pieces in order, one write each; after a write that isn't Ok no more is written, and the
+/// fault is that write's.
+pub(crate) fn write_pieces<S: Sink>(pieces: &[Bytes], sink: &mut S) -> Result<(), SinkFault>
+    ensures ok { OnOk result (Appended (S.written sink.old) (S.written sink.new) (joined pieces.now)) }
+    ensures part { OnErr result (AppendedPart (S.written sink.old) (S.written sink.new) (joined pieces.now)) }
     ensures cause { IsErrOf result SinkFault.Failed → Rose (S.faults sink.old) (S.faults sink.new) }
     ensures kept { OnOk result (S.flagged sink.new ≡ S.flagged sink.old) }
-    ensures set { IsErrOf result SinkFault.Failed → S.flagged sink.new ≡ true }
-    ensures flag { IsNotCleared (S.flagged sink.old) (S.flagged sink.new) }
+    ensures set { OnErr result (S.flagged sink.new ≡ true) }
 {
-    for name in names {
-        match write_ok(alloc, name.as_str(), sink) {
+    for piece in pieces {
+        match sink.write(piece.as_slice()) {
             Ok(()) => {}
             Err(fault) => return Err(fault),
         }

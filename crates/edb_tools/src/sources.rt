@@ -1,52 +1,24 @@
 //! What is read, and what is to be written of it.
 
-ghost use Rattle.std.specs.Prelude.{◌≡◌, ◌<◌, ◌≤◌, ◌^◌, map, string_bytes, length, Some, IfOk, IfErr, OnOk, MatchResult};
+ghost use Rattle.std.specs.Prelude.{◌≡◌, ◌<◌, ◌≤◌, ◌^◌, [], map, length, Some, IfOk, IfErr, OnOk, MatchResult};
 ghost use Rattle.edb_verdict.specs.Verdicts.{HasFault};
-ghost use Rattle.edb_tools.specs.Plans.{check, format};
-ghost use Rattle.edb_tools.specs.Reads.{AreRead};
-ghost use Rattle.edb_tools.specs.Verdicts.{AreAccepted, Accepts};
-ghost use Rattle.edb_tools.specs.Ends.{HasCause, HasLayout, HasReads, IsEarly, IsLaidOut, IsVerdict, file_of};
+ghost use Rattle.edb_files.specs.Asking.{asked_of};
+ghost use Rattle.edb_tools.specs.Views.{seen, IsAsked};
+ghost use Rattle.edb_tools.specs.Verdicts.{AreAccepted};
+ghost use Rattle.edb_tools.specs.Ends.{HasCause, HasLayout, HasReads, IsEarly, IsOutput, IsVerdict, Prints, joined};
 
 use crate::ToolEnd;
-use edb_io::{Files, ReadFault};
+use crate::lines::ok_texts;
+use crate::words::{AskedFor, Tool};
+use edb_files::{AskedFile, ReadsFault, read_in_order};
+use edb_io::Files;
 use edb_lang::Bytes;
 use edb_print::module_text;
 use edb_verdict::{ModuleFault, verdict};
 use std::alloc::{AllocError, Global};
 
-/// The most bytes that are read of a file: one more than it may have.
-const MOST_BYTES: u32 = 1_000_001;
-
-/// The texts of the files, read in order, up to 1,000,001 bytes of each. `FileFault` comes at the
-/// first whose read fails, counted from 0, and `NoMemory` where memory is refused.
-fn read_all<F: Files>(alloc: Global, names: &[String], files: &mut F) -> Result<Vec<Bytes>, ToolEnd>
-    requires { length names.now < 2 ^ 32 }
-    ensures ok { IfOk result (λ texts. AreRead (map string_bytes names.now) (F.reads files.old) (F.reads files.new) texts.items) }
-    ensures cause { IfErr result (λ end. HasCause (Some (check (map string_bytes names.now))) (F.reads files.old) (F.reads files.new) (F.faults files.old) (F.faults files.new) end) }
-    ensures reads { IfErr result (λ end. HasReads (Some (check (map string_bytes names.now))) (F.reads files.old) (F.reads files.new) end) }
-    ensures early { IfErr result IsEarly }
-    ensures later { F.faults files.old ≤ F.faults files.new }
-{
-    let mut texts = Vec::new(alloc);
-    for name in names {
-        match files.read(alloc, name.as_str(), MOST_BYTES) {
-            Ok(text) => match texts.push(text) {
-                Ok(()) => {}
-                Err(_) => return Err(ToolEnd::NoMemory),
-            },
-            Err(ReadFault::Failed) => {
-                return Err(ToolEnd::FileFault {
-                    file: texts.len() as u32,
-                });
-            }
-            Err(ReadFault::NoMemory) => return Err(ToolEnd::NoMemory),
-        }
-    }
-    Ok(texts)
-}
-
 /// Checks each text, in order. `ModuleRefused` comes at the first that has a fault, counted from 0, and `NoMemory`
-/// where memory is refused.
+/// if it is out of memory.
 fn check_all(alloc: Global, texts: &[Bytes]) -> Result<(), ToolEnd>
     requires { length texts.now < 2 ^ 32 }
     ensures ok { OnOk result (AreAccepted texts.now) }
@@ -67,30 +39,7 @@ fn check_all(alloc: Global, texts: &[Bytes]) -> Result<(), ToolEnd>
     Ok(())
 }
 
-/// Reads all files and then checks all texts, in order; tells how the tool ends where a read fails, a
-/// text has a fault or memory is refused.
-pub(crate) fn prepare<F: Files>(
-    alloc: Global,
-    names: &[String],
-    files: &mut F,
-) -> Result<(), ToolEnd>
-    requires { length names.now < 2 ^ 32 }
-    ensures ok { OnOk result (Accepts (map string_bytes names.now) (F.reads files.old) (F.reads files.new)) }
-    ensures cause { IfErr result (λ end. HasCause (Some (check (map string_bytes names.now))) (F.reads files.old) (F.reads files.new) (F.faults files.old) (F.faults files.new) end) }
-    ensures reads { IfErr result (λ end. HasReads (Some (check (map string_bytes names.now))) (F.reads files.old) (F.reads files.new) end) }
-    ensures early { IfErr result IsEarly }
-{
-    let texts = match read_all(alloc, names, files) {
-        Ok(texts) => texts,
-        Err(end) => return Err(end),
-    };
-    match check_all(alloc, texts.as_slice()) {
-        Ok(()) => Ok(()),
-        Err(end) => Err(end),
-    }
-}
-
-/// The text of the layout of a text's module, or the text's fault; refused only for want of memory.
+/// The text of the layout of a text's module, or the text's fault; `Err` comes only out of memory.
 fn lay_out(alloc: Global, text: &[u8]) -> Result<Result<Bytes, ModuleFault>, AllocError>
     ensures { IfOk result (λ r. MatchResult r (λ out. HasLayout text.now out) (λ fault. HasFault text.now fault)) }
 {
@@ -103,26 +52,77 @@ fn lay_out(alloc: Global, text: &[u8]) -> Result<Result<Bytes, ModuleFault>, All
     }
 }
 
-/// Reads a file and lays out its module: the text of the layout, or how the tool ends.
-pub(crate) fn prepare_layout<F: Files>(
-    alloc: Global,
-    name: &str,
-    files: &mut F,
-) -> Result<Bytes, ToolEnd>
-    ensures ok { IfOk result (λ out. IsLaidOut name.now (F.reads files.old) (F.reads files.new) out) }
-    ensures cause { IfErr result (λ end. HasCause (Some (format name.now)) (F.reads files.old) (F.reads files.new) (F.faults files.old) (F.faults files.new) end) }
-    ensures reads { IfErr result (λ end. HasReads (Some (format name.now)) (F.reads files.old) (F.reads files.new) end) }
-    ensures early { IfErr result IsEarly }
-    ensures first { IfErr result (λ end. file_of end ≡ 0) }
+/// The lines of files, in pieces, if their texts are all accepted; or how the tool ends.
+fn lines_of(alloc: Global, files: &[AskedFile<'_>], texts: &[Bytes]) -> Result<Vec<Bytes>, ToolEnd>
+    requires { length texts.now < 2 ^ 32 }
+    ensures accepted { OnOk result (AreAccepted texts.now) }
+    ensures prints { IfOk result (λ lines. Prints Tool.Check (map asked_of files.now) texts.now (joined lines.items)) }
+    ensures err { IfErr result (λ end. IsVerdict texts.now end) }
 {
-    let text = match files.read(alloc, name, MOST_BYTES) {
-        Ok(text) => text,
-        Err(ReadFault::Failed) => return Err(ToolEnd::FileFault { file: 0 }),
-        Err(ReadFault::NoMemory) => return Err(ToolEnd::NoMemory),
-    };
-    match lay_out(alloc, text.as_slice()) {
-        Ok(Ok(out)) => Ok(out),
+    match check_all(alloc, texts) {
+        Ok(()) => match ok_texts(alloc, files) {
+            Ok(lines) => Ok(lines),
+            Err(_) => Err(ToolEnd::NoMemory),
+        },
+        Err(end) => Err(end),
+    }
+}
+
+/// The layout of the one text's module, in one piece, if the text is accepted; or how the tool ends.
+fn layout_of(alloc: Global, texts: &[Bytes]) -> Result<Vec<Bytes>, ToolEnd>
+    requires { length texts.now ≡ 1 }
+    ensures accepted { OnOk result (AreAccepted texts.now) }
+    ensures prints { IfOk result (λ pieces. Prints Tool.Format [] texts.now (joined pieces.items)) }
+    ensures err { IfErr result (λ end. IsVerdict texts.now end) }
+{
+    match lay_out(alloc, texts[0].as_slice()) {
+        Ok(Ok(out)) => {
+            let mut pieces = Vec::new(alloc);
+            match pieces.push(out) {
+                Ok(()) => Ok(pieces),
+                Err(_) => Err(ToolEnd::NoMemory),
+            }
+        }
         Ok(Err(fault)) => Err(ToolEnd::ModuleRefused { file: 0, fault }),
         Err(_) => Err(ToolEnd::NoMemory),
+    }
+}
+
+/// What a command writes of the texts of its files, in pieces; or how the tool ends if a text has a fault or it is out of
+/// memory.
+fn pieces_of(alloc: Global, asked: &AskedFor<'_>, texts: &[Bytes]) -> Result<Vec<Bytes>, ToolEnd>
+    requires asked { IsAsked asked.now }
+    requires all { length texts.now ≡ length asked.now.files.items }
+    ensures accepted { OnOk result (AreAccepted texts.now) }
+    ensures prints { IfOk result (λ pieces. Prints (seen asked.now).command (seen asked.now).files texts.now (joined pieces.items)) }
+    ensures err { IfErr result (λ end. IsVerdict texts.now end) }
+{
+    match asked.command {
+        Tool::Check => lines_of(alloc, asked.files.as_slice(), texts),
+        Tool::Format => layout_of(alloc, texts),
+    }
+}
+
+/// Reads the files that are asked for, in order, and makes what the command writes of them, in pieces; or tells how the
+/// tool ends if a read fails, a text has a fault or it is out of memory.
+pub(crate) fn prepare<F: Files>(
+    alloc: Global,
+    asked: &AskedFor<'_>,
+    files: &mut F,
+) -> Result<Vec<Bytes>, ToolEnd>
+    requires { IsAsked asked.now }
+    ensures ok { IfOk result (λ pieces. IsOutput (seen asked.now) (F.reads files.old) (F.reads files.new) (joined pieces.items)) }
+    ensures cause { IfErr result (λ end. HasCause (Some (seen asked.now)) (F.reads files.old) (F.reads files.new) (F.faults files.old) (F.faults files.new) end) }
+    ensures reads { IfErr result (λ end. HasReads (Some (seen asked.now)) (F.reads files.old) (F.reads files.new) end) }
+    ensures early { IfErr result IsEarly }
+{
+    let texts = match read_in_order(alloc, asked.files.as_slice(), files) {
+        Ok(texts) => texts,
+        Err(ReadsFault::Failed { file }) => return Err(ToolEnd::FileFault { file }),
+        Err(ReadsFault::NoMemory) => return Err(ToolEnd::NoMemory),
+    };
+    match pieces_of(alloc, asked, texts.as_slice()) {
+        Ok(pieces) => Ok(pieces),
+        Err(end) => Err(end),
     }
 }

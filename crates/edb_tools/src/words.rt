@@ -1,45 +1,46 @@
 //! The words of the command line.
 
-ghost use Rattle.std.specs.Prelude.{◌≡◌, ◌<◌, ◌^◌, length, IfSome, map, string_bytes, codes, nat_eq};
+ghost use Rattle.std.specs.Prelude.{◌≡◌, ◌<◌, ◌^◌, [], ◌∷◌, length, IfOk, IfSome, map, string_bytes, codes, nat_eq};
 ghost use Rattle.std.specs.List.{list_all};
 ghost use Rattle.std.specs.Option.{option_map};
-ghost use Rattle.edb_tools.specs.Plans.{check, format, is_name, check_plan, format_plan, plan_of};
-ghost use Rattle.edb_tools.specs.Views.{asked, IsFew};
+ghost use Rattle.edb_files.specs.InOrder.{text_file};
+ghost use Rattle.edb_files.specs.Asking.{asked_of};
+ghost use Rattle.edb_tools.specs.Requests.{is_name, request, check_request, format_request, request_of};
+ghost use Rattle.edb_tools.specs.Views.{seen, IsAsked};
 
-/// What the words ask for.
-#[derive(Clone, Copy)]
-pub(crate) enum Request<'a> {
-    /// To check these files, in order.
-    Check(&'a [String]),
-    /// To lay out the module of this file.
-    Format(&'a String),
+use edb_files::{AskedFile, MOST_BYTES, is_option_word};
+use std::alloc::{AllocError, Global};
+
+/// A command of the tool.
+#[derive(Clone, Copy, Debug, PartialEq, Eq)]
+pub(crate) enum Tool {
+    /// To check files, in order.
+    Check,
+    /// To lay out the module of one file.
+    Format,
+}
+
+/// What the words ask for: a command, and the files that it takes, in order.
+#[derive(Drop)]
+pub(crate) struct AskedFor<'a> {
+    pub command: Tool,
+    pub files: Vec<AskedFile<'a>>,
 }
 
 /// There are fewer words than this, so that each file has a number below 2^32.
 const WORDS_END: usize = 4_294_967_295;
 
-/// Whether a word names a file: it does unless it begins with `-` and has a character more.
-fn is_file_name(word: &str) -> bool
-    ensures { result ≡ is_name word.now }
-{
-    match word.as_bytes() {
-        [first, _, ..] => *first != b'-',
-        _ => true,
-    }
-}
-
 /// Whether each word names a file.
-fn are_file_names(words: &[String]) -> bool
+fn are_names(words: &[String]) -> bool
     ensures { result ≡ list_all (λ word. is_name (string_bytes word)) words.now }
 {
-    words.iter().all(|word| is_file_name(word.as_str()))
+    words.iter().all(|word| !is_option_word(word.as_str()))
 }
 
-/// The names of the files, where the words are `check` and one name or more; none for any other
-/// words.
-fn file_names(words: &[String]) -> Option<&[String]>
+/// The names of the files, if the words are `check` and one name or more.
+fn check_names(words: &[String]) -> Option<&[String]>
     ensures few { IfSome result (λ names. length names.now < 2 ^ 32) }
-    ensures names { option_map (λ names. check (map string_bytes names.now)) result ≡ check_plan (map string_bytes words.now) }
+    ensures names { option_map (λ names. request Tool.Check (map string_bytes names.now)) result ≡ check_request (map string_bytes words.now) }
 {
     match words {
         [command, _, ..] => {
@@ -47,7 +48,7 @@ fn file_names(words: &[String]) -> Option<&[String]>
             if command.as_bytes() != b"check".as_slice() {
                 return None;
             }
-            if !are_file_names(names) {
+            if !are_names(names) {
                 return None;
             }
             if words.len() >= WORDS_END {
@@ -59,16 +60,16 @@ fn file_names(words: &[String]) -> Option<&[String]>
     }
 }
 
-/// The name of the file, where the words are `fmt` and one name; none for any other words.
-fn file_name(words: &[String]) -> Option<&String>
-    ensures { option_map (λ name. format (string_bytes name.now)) result ≡ format_plan (map string_bytes words.now) }
+/// The name of the file, if the words are `fmt` and one name.
+fn format_name(words: &[String]) -> Option<&String>
+    ensures { option_map (λ name. request Tool.Format (string_bytes name.now ∷ [])) result ≡ format_request (map string_bytes words.now) }
 {
     match words {
         [command, name] => {
             if command.as_bytes() != b"fmt".as_slice() {
                 return None;
             }
-            if !is_file_name(name.as_str()) {
+            if is_option_word(name.as_str()) {
                 return None;
             }
             Some(name)
@@ -77,16 +78,55 @@ fn file_name(words: &[String]) -> Option<&String>
     }
 }
 
-/// What the words ask for; none where they aren't a command and what it takes.
-pub(crate) fn find_request(words: &[String]) -> Option<Request<'_>>
-    ensures few { IfSome result IsFew }
-    ensures plan { option_map asked result ≡ plan_of (map string_bytes words.now) }
+/// The files of modules with these names. `Err` comes only out of memory.
+fn files_named<'a>(alloc: Global, names: &'a [String]) -> Result<Vec<AskedFile<'a>>, AllocError>
+    ensures files { IfOk result (λ files. map asked_of files.items ≡ map (λ name. text_file (string_bytes name)) names.now) }
+    ensures all { IfOk result (λ files. length files.items ≡ length names.now) }
 {
-    match file_names(words) {
-        Some(names) => Some(Request::Check(names)),
-        None => match file_name(words) {
-            Some(name) => Some(Request::Format(name)),
-            None => None,
+    let mut files = Vec::new(alloc);
+    for name in names {
+        files.push(AskedFile {
+            name: name.as_str(),
+            most: MOST_BYTES,
+        })?;
+    }
+    Ok(files)
+}
+
+/// The file of a module with this name, alone. `Err` comes only out of memory.
+fn file_named<'a>(alloc: Global, name: &'a String) -> Result<Vec<AskedFile<'a>>, AllocError>
+    ensures file { IfOk result (λ files. map asked_of files.items ≡ text_file (string_bytes name.now) ∷ []) }
+    ensures one { IfOk result (λ files. length files.items ≡ 1) }
+{
+    let mut files = Vec::new(alloc);
+    files.push(AskedFile {
+        name: name.as_str(),
+        most: MOST_BYTES,
+    })?;
+    Ok(files)
+}
+
+/// What the words ask for, or `None` if they aren't a command and what it takes. `Err` comes only out of memory.
+pub(crate) fn find_request<'a>(
+    alloc: Global,
+    words: &'a [String],
+) -> Result<Option<AskedFor<'a>>, AllocError>
+    ensures asked { IfOk result (λ found. IfSome found IsAsked) }
+    ensures request { IfOk result (λ found. option_map seen found ≡ request_of (map string_bytes words.now)) }
+{
+    match check_names(words) {
+        Some(names) => {
+            let files = files_named(alloc, names)?;
+            let command = Tool::Check;
+            Ok(Some(AskedFor { command, files }))
+        }
+        None => match format_name(words) {
+            Some(name) => {
+                let files = file_named(alloc, name)?;
+                let command = Tool::Format;
+                Ok(Some(AskedFor { command, files }))
+            }
+            None => Ok(None),
         },
     }
 }

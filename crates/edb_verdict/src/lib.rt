@@ -3,8 +3,6 @@
 
 mod fault;
 mod laws;
-#[cfg(test)]
-mod tests;
 mod top;
 
 pub use fault::ModuleFault;

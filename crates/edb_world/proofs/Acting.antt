@@ -1,22 +1,25 @@
 -- The entry of an act of the process that has the turn may stand.
 
-use Rattle.std.proofs.Common.{◌≡◌, ℕ, [], ◌∷◌, ◌++◌, Some, refl, sym, ◌∙◌, ap, subst}
-use Rattle.edb_model.specs.declared.act.ActKind.{ActKind}
-use Rattle.edb_model.specs.declared.act.ActKind.TheVariants as kind
+use Rattle.std.proofs.Common.{◌≡◌, ◌≤◌, ◌+◌, ◌-◌, ℕ, zero, suc, false, List, [], ◌∷◌, ◌++◌, Option, None, Some, slice_set, refl, sym, ◌∙◌, ap, subst, arith}
+use Rattle.edb_lang.specs.declared.act.ActKind.{ActKind}
+use Rattle.edb_lang.specs.declared.act.ActKind.TheVariants as kind
 use Rattle.edb_model.specs.Running.{Run}
 use Rattle.edb_model.specs.Move.{acts, next, redex, answered}
-use Rattle.edb_model.specs.Acts.{displayed, true_term, ended, exit_reason}
-use Rattle.edb_model.specs.Plain.{process_at, with_process}
+use Rattle.edb_model.specs.Acts.{displayed, true_term, exit_reason}
+use Rattle.edb_model.specs.Bonds.{no_bonds}
+use Rattle.edb_model.specs.Procs.{Member, new_member, numbered, ended_member}
+use Rattle.edb_model.specs.Plain as model
 use Rattle.edb_event.specs.declared.entry.Entry.{Entry}
+use Rattle.edb_event.specs.declared.entry.Entry.TheVariants as entry
 use Rattle.edb_rules.specs.Plans.{Plan}
-use Rattle.edb_rules.specs.Facts.{Facts}
+use Rattle.edb_rules.specs.Facts.{Debugged, Facts, debugged_at}
 use Rattle.edb_rules.specs.Notes.{note}
 use Rattle.edb_event.specs.Ranges.{IsEntry}
 use Rattle.edb_rules.specs.Legal.{MayBegin, NoTrigger, NoCommand, NoLease, HasTurn, May}
 use Rattle.edb_rules.proofs.OneJournal.{did_none_new}
 use Rattle.edb_rules.proofs.Stops.{did_coming}
 use Rattle.edb_world.specs.declared.world.World.{World}
-use Rattle.edb_world.specs.Known.{noted}
+use Rattle.edb_world.specs.Known.{Known, noted, running_at}
 use Rattle.edb_world.specs.Turns.{IsFirstReady, act_entry}
 use Rattle.edb_world.specs.Plans.{IsPlan}
 use Rattle.edb_world.specs.Worlds.{Keeps, Went}
@@ -32,7 +35,7 @@ pub print_may : (plan : Plan) (f : Facts) (p : ℕ) → MayBegin plan f → NoTr
 print_may plan f p begin quiet none first is =
     record {
       rule = record { turn = turn plan f p begin quiet none first; is_next = is; answer = refl; prints = refl };
-      plain = record (with_process f.plain p (record (process_at f.plain p) { running = Some (answered true_term first.ready.running) })) { output = f.plain.output ++ displayed (redex first.ready.running).1 };
+      plain = record (model.with_running f.plain p (Some (answered true_term first.ready.running))) { output = f.plain.output ++ displayed (redex first.ready.running).1 };
       enabled = rw first.ready.lives (rw is refl);
     }
 
@@ -41,7 +44,7 @@ pub end_may : (plan : Plan) (f : Facts) (p : ℕ) → MayBegin plan f → NoTrig
 end_may plan f p begin quiet none first is =
     record {
       rule = record { turn = turn plan f p begin quiet none first; is_next = is; answer = refl; prints = refl };
-      plain = with_process f.plain p (ended (process_at f.plain p) (exit_reason first.ready.running));
+      plain = model.ended f.plain p (exit_reason first.ready.running);
       enabled = rw first.ready.lives (rw is refl);
     }
 
@@ -60,3 +63,26 @@ pub act_in_range : (w : World) (p : ℕ) (k : ActKind) (t : Run) (e : Entry) →
     → e ≡ act_entry p k t → IsEntry e
 act_in_range w p k t e plan keeps may is =
     subst (λ (x : Entry). IsEntry x) (sym is) (in_range w.state.plan w.journal.entries w.state.facts (act_entry p k t) plan keeps.kept may)
+
+-- the end of a process, by what stands at its place in each list
+pub end_noted : (k new : Known) (p : ℕ) (t : Run) (value : List ℕ) (m : Member) (d e : Debugged) (q : Option Run) (n : Member)
+    → 1 ≤ p → running_at k p ≡ Some t → next t ≡ acts kind.End
+    → k.facts.plain.procs.names ≡ [] → k.facts.plain.procs.bonds ≡ no_bonds
+    → numbered new_member k.facts.plain.procs.members p ≡ m → n ≡ ended_member (exit_reason t) m
+    → debugged_at k.facts p ≡ d → e ≡ record d { meta = false; stopped = false; out = false } → q ≡ None
+    → new ≡ record k {
+      facts = record k.facts {
+        debugged = slice_set k.facts.debugged (p - 1) e;
+        turn = p;
+        weight = k.facts.weight + 1;
+        plain = record k.facts.plain {
+          procs = record k.facts.plain.procs { members = slice_set k.facts.plain.procs.members (p - 1) n };
+          running = slice_set k.facts.plain.running (p - 1) q;
+        };
+      };
+    }
+    → new ≡ noted k (entry.Did p kind.End value [])
+end_noted k new zero t value m d e q n some lives is names bonds member ends known after none same = absurd (omega arith)
+end_noted k new (suc i) t value m d e q n some lives is names bonds member ends known after none same =
+    let back : suc i - 1 ≡ i = omega arith in
+    same ∙ rw (back, none, ends, ← member, after, ← known, lives, is, names, bonds) refl

@@ -8,7 +8,7 @@ use Rattle.std.proofs.lemmas.List.Elements.{All-head, All-tail}
 use Rattle.std.proofs.lemmas.Option.{slice_get_within, none-some, same_Some}
 use Rattle.edb_lang.specs.Terms.{Datum, elements}
 use Rattle.edb_model.specs.Running.{opening_call}
-use Rattle.edb_model.specs.Plain.{newborn}
+use Rattle.edb_model.specs.Plain as model
 use Rattle.edb_model.specs.Labels.{most_processes}
 use Rattle.edb_event.specs.declared.call.Command.{Command}
 use Rattle.edb_event.specs.declared.call.Call.{Call}
@@ -40,6 +40,9 @@ about_served (call.Step q) p = refl
 about_served (call.Next q) p = refl
 about_served (call.Finish q) p = refl
 about_served (call.Halt q) p = refl
+about_served (call.Skip q) p = refl
+about_served (call.Kill q) p = refl
+about_served (call.Timeout q) p = refl
 about_served (call.Continue q) p = refl
 about_served (call.Bindings q) p = refl
 about_served (call.Frames q) p = refl
@@ -69,15 +72,15 @@ served_may plan f x r begin quiet next known enabled is may =
 
 abbrev Started : Known → List ℕ → List ℕ → Datum → Bool → Entry
 Started k m n args b =
-    if b then entry.Start 1 (length k.facts.plain.processes + 1) m n args
+    if b then entry.Start 1 (length k.facts.plain.running + 1) m n args
     else entry.Served 1 (call.Start m n args) (reply_to k.plan k.facts 1 (call.Start m n args))
 
-start_may : (k : Known) (m n : List ℕ) (args : Datum) (b : Bool) → nat_lt (length k.facts.plain.processes) most_processes ≡ b
+start_may : (k : Known) (m n : List ℕ) (args : Datum) (b : Bool) → nat_lt (length k.facts.plain.running) most_processes ≡ b
     → MayBegin k.plan k.facts → NoTrigger k.facts → next_call k.plan k.facts ≡ Some (call.Start m n args) → May k.plan k.facts (Started k m n args b)
 start_may k m n args true room begin quiet next =
     record {
       rule = record { call = begin; no_trigger = quiet; console = refl; next = next; number = refl; few = ltb-true _ _ room };
-      plain = record k.facts.plain { processes = k.facts.plain.processes ++ newborn (opening_call m n (elements args)) ∷ [] };
+      plain = model.with_newborn k.facts.plain (opening_call m n (elements args));
       enabled = rw room refl;
     }
 start_may k m n args false full begin quiet next =

@@ -30,6 +30,9 @@ grown plan journal f e k may alone =
 pub weighs : (e : Entry) → 1 ≤ weight_of e
 weighs (entry.Start c p m n args) = omega arith
 weighs (entry.Load c m v) = omega arith
+weighs (entry.Skip con who) = omega arith
+weighs (entry.Kill con who) = omega arith
+weighs (entry.Expire con who) = omega arith
 weighs (entry.Lease p b) = omega arith
 weighs (entry.Ran p n c) = omega arith
 weighs (entry.Ask p k) = omega arith

@@ -6,7 +6,8 @@ use Rattle.std.proofs.lemmas.Option.{none-some}
 use Rattle.edb_lang.specs.Syntax.{ModuleTree}
 use Rattle.edb_model.specs.Running.{Run}
 use Rattle.edb_model.specs.Move.{Next, begins, acts, pure, next, is_move, moved}
-use Rattle.edb_model.specs.Plain.{Process, Plain, nobody, process_at, with_process}
+use Rattle.edb_model.specs.Plain.{Plain}
+use Rattle.edb_model.specs.Plain as model
 use Rattle.edb_model.specs.Labels.{Label, move, moved_in, step, steps}
 use Rattle.edb_event.specs.declared.entry.Entry.TheVariants as entry
 use Rattle.edb_rules.specs.Facts.{Handout, Debugged, debugged_at, with_debugged}
@@ -17,65 +18,63 @@ use Rattle.edb_world.specs.Known.{Known, noted, coming, running_at}
 use Rattle.edb_world.specs.Turns.{MakesSlice, IsSliceOf}
 
 -- a process that is put in its place, and one put there after another
-here : (qs : List Process) (n : ℕ) (q : Process) (t : Run) → (slice_index_or qs n nobody).running ≡ Some t → slice_index_or (slice_set qs n q) n nobody ≡ q
+here : (qs : List (Option Run)) (n : ℕ) (q : Option Run) (t : Run) → (slice_index_or qs n None) ≡ Some t → slice_index_or (slice_set qs n q) n None ≡ q
 here [] n q t e = absurd (none-some t e)
 here (x ∷ xs) zero q t e = refl
 here (x ∷ xs) (suc n) q t e = here xs n q t e
 
-twice : (qs : List Process) (n : ℕ) (q r : Process) → slice_set (slice_set qs n q) n r ≡ slice_set qs n r
+twice : (qs : List (Option Run)) (n : ℕ) (q r : Option Run) → slice_set (slice_set qs n q) n r ≡ slice_set qs n r
 twice [] n q r = refl
 twice (x ∷ xs) zero q r = refl
-twice (x ∷ xs) (suc n) q r = ap (λ (ys : List Process). x ∷ ys) (twice xs n q r)
+twice (x ∷ xs) (suc n) q r = ap (λ (ys : List (Option Run)). x ∷ ys) (twice xs n q r)
 
-same : (qs : List Process) (n : ℕ) → slice_set qs n (slice_index_or qs n nobody) ≡ qs
+same : (qs : List (Option Run)) (n : ℕ) → slice_set qs n (slice_index_or qs n None) ≡ qs
 same [] n = refl
 same (x ∷ xs) zero = refl
-same (x ∷ xs) (suc n) = ap (λ (ys : List Process). x ∷ ys) (same xs n)
+same (x ∷ xs) (suc n) = ap (λ (ys : List (Option Run)). x ∷ ys) (same xs n)
 
-pub with_here : (s : Plain) (p : ℕ) (q : Process) (t : Run) → (process_at s p).running ≡ Some t → process_at (with_process s p q) p ≡ q
+pub with_here : (s : Plain) (p : ℕ) (q : Option Run) (t : Run) → (model.running_at s p) ≡ Some t → model.running_at (model.with_running s p q) p ≡ q
 with_here s zero q t e = absurd (none-some t e)
-with_here s (suc n) q t e = here s.processes n q t e
+with_here s (suc n) q t e = here s.running n q t e
 
-with_twice : (s : Plain) (p : ℕ) (q r : Process) → with_process (with_process s p q) p r ≡ with_process s p r
+with_twice : (s : Plain) (p : ℕ) (q r : Option Run) → model.with_running (model.with_running s p q) p r ≡ model.with_running s p r
 with_twice s zero q r = refl
-with_twice s (suc n) q r = ap (λ (qs : List Process). record s { processes = qs }) (twice s.processes n q r)
+with_twice s (suc n) q r = ap (λ (qs : List (Option Run)). record s { running = qs }) (twice s.running n q r)
 
-with_same : (s : Plain) (p : ℕ) → with_process s p (process_at s p) ≡ s
+with_same : (s : Plain) (p : ℕ) → model.with_running s p (model.running_at s p) ≡ s
 with_same s zero = refl
-with_same s (suc n) = ap (λ (qs : List Process). record s { processes = qs }) (same s.processes n)
+with_same s (suc n) = ap (λ (qs : List (Option Run)). record s { running = qs }) (same s.running n)
 
-with_versions : (s : Plain) (p : ℕ) (q : Process) → (with_process s p q).versions ≡ s.versions
+with_versions : (s : Plain) (p : ℕ) (q : Option Run) → (model.with_running s p q).versions ≡ s.versions
 with_versions s zero q = refl
 with_versions s (suc n) q = refl
 
 -- the state in which process p does this
 abbrev pub doing : Plain → ℕ → Run → Plain
-doing s p t = with_process s p (record (process_at s p) { running = Some t })
+doing s p t = model.with_running s p (Some t)
 
-doing_same : (s : Plain) (p : ℕ) (t : Run) → (process_at s p).running ≡ Some t → doing s p t ≡ s
+doing_same : (s : Plain) (p : ℕ) (t : Run) → (model.running_at s p) ≡ Some t → doing s p t ≡ s
 doing_same s p t e =
-    ap (λ (o : Option Run). with_process s p (record (process_at s p) { running = o })) (sym e) ∙ with_same s p
+    ap (λ (o : Option Run). model.with_running s p (o)) (sym e) ∙ with_same s p
 
-pub doing_at : (s : Plain) (p : ℕ) (t u : Run) → (process_at s p).running ≡ Some t → process_at (doing s p u) p ≡ record (process_at s p) { running = Some u }
-doing_at s p t u e = with_here s p (record (process_at s p) { running = Some u }) t e
+pub doing_at : (s : Plain) (p : ℕ) (t u : Run) → (model.running_at s p) ≡ Some t → model.running_at (doing s p u) p ≡ Some u
+doing_at s p t u e = with_here s p (Some u) t e
 
-doing_moved : (code : List ModuleTree) (s : Plain) (p : ℕ) (t u : Run) → (process_at s p).running ≡ Some t
+doing_moved : (code : List ModuleTree) (s : Plain) (p : ℕ) (t u : Run) → (model.running_at s p) ≡ Some t
     → moved_in code (doing s p u) p u ≡ doing s p (moved code s.versions u)
 doing_moved code s p t u e =
-    ap (λ (q : Process). with_process (doing s p u) p (record q { running = Some (moved code (doing s p u).versions u) })) (doing_at s p t u e)
-    ∙ (ap (λ (vs : List (List ℕ × ℕ)). with_process (doing s p u) p (record (process_at s p) { running = Some (moved code vs u) }))
-    (with_versions s p (record (process_at s p) { running = Some u }))
-    ∙ with_twice s p (record (process_at s p) { running = Some u }) (record (process_at s p) { running = Some (moved code s.versions u) }))
+    ap (λ (vs : List (List ℕ × ℕ)). model.with_running (doing s p u) p (Some (moved code vs u))) (with_versions s p (Some u))
+    ∙ with_twice s p (Some u) (Some (moved code s.versions u))
 
 if_move : (b : Bool) (x : Plain) → b ≡ true → (if b then Some x else None) ≡ Some x
 if_move true x h = refl
 if_move false x h = cc
 
-one_step : (code : List ModuleTree) (s : Plain) (p : ℕ) (t u : Run) → (process_at s p).running ≡ Some t → is_move (next u) ≡ true
+one_step : (code : List ModuleTree) (s : Plain) (p : ℕ) (t u : Run) → (model.running_at s p) ≡ Some t → is_move (next u) ≡ true
     → step code (doing s p u) (move p) ≡ Some (doing s p (moved code s.versions u))
 one_step code s p t u e h =
     ap (λ (o : Option Run). option_and_then (λ (x : Run). if is_move (next x) then Some (moved_in code (doing s p u) p x) else None) o)
-    (ap (λ (q : Process). q.running) (doing_at s p t u e))
+    (doing_at s p t u e)
     ∙ (if_move (is_move (next u)) (moved_in code (doing s p u) p u) h
     ∙ ap (λ (x : Plain). Some x) (doing_moved code s p t u e))
 
@@ -84,7 +83,7 @@ replicate_more zero l = refl
 replicate_more (suc n) l = ap (λ (ls : List Label). l ∷ ls) (replicate_more n l)
 
 -- so many pure moves of a process
-pub moves_are_steps : (code : List ModuleTree) (s : Plain) (p : ℕ) (t : Run) (n : ℕ) → (process_at s p).running ≡ Some t
+pub moves_are_steps : (code : List ModuleTree) (s : Plain) (p : ℕ) (t : Run) (n : ℕ) → (model.running_at s p) ≡ Some t
     → ((i : ℕ) → i < n → is_move (next (after_moves code s.versions i t)) ≡ true)
     → steps code s (replicate n (move p)) ≡ Some (doing s p (after_moves code s.versions n t))
 moves_are_steps code s p t zero e h = ap (λ (x : Plain). Some x) (sym (doing_same s p t e))
@@ -150,29 +149,29 @@ some_of None h = absurd (cc)
 some_of (Some t) h = (t, refl)
 
 -- the same by what stands at the process's place: what it is before and after, and what is known of it
-placed : (k : Known) (p : ℕ) (q : Process) (d : Debugged) (w : ℕ) → 1 ≤ p
+placed : (k : Known) (p : ℕ) (q : Option Run) (d : Debugged) (w : ℕ) → 1 ≤ p
     → record k {
       facts = record k.facts {
         debugged = slice_set k.facts.debugged (p - 1) d;
-        plain = record k.facts.plain { processes = slice_set k.facts.plain.processes (p - 1) q };
+        plain = record k.facts.plain { running = slice_set k.facts.plain.running (p - 1) q };
         coming = [];
         weight = w;
       };
     }
-    ≡ record k { facts = record (with_debugged k.facts p d) { plain = with_process k.facts.plain p q; coming = []; weight = w } }
+    ≡ record k { facts = record (with_debugged k.facts p d) { plain = model.with_running k.facts.plain p q; coming = []; weight = w } }
 placed k zero q d w some = absurd (omega arith)
 placed k (suc n) q d w some = let e : suc n - 1 ≡ n = omega arith in rw e refl
 
-pub slice_at : (k new : Known) (p : ℕ) (t : Run) (s : Slice) (w : ℕ) (code : List ModuleTree) (versions : List (List ℕ × ℕ)) (q r : Process) (d e : Debugged)
-    → 1 ≤ p → process_at k.facts.plain p ≡ q → debugged_at k.facts p ≡ d → code ≡ k.plan.code → versions ≡ k.facts.plain.versions
+pub slice_at : (k new : Known) (p : ℕ) (t : Run) (s : Slice) (w : ℕ) (code : List ModuleTree) (versions : List (List ℕ × ℕ)) (q r : Option Run) (d e : Debugged)
+    → 1 ≤ p → model.running_at k.facts.plain p ≡ q → debugged_at k.facts p ≡ d → code ≡ k.plan.code → versions ≡ k.facts.plain.versions
     → running_at k p ≡ Some t → MakesSlice code versions d t s
-    → r ≡ record q { running = Some (after_moves code versions s.moves t) }
+    → r ≡ Some (after_moves code versions s.moves t)
     → e ≡ record d { out = false; resumed = d.resumed && nat_eq s.moves 0 }
     → w ≡ k.facts.weight + max 1 (s.moves + 0)
     → new ≡ record k {
       facts = record k.facts {
         debugged = slice_set k.facts.debugged (p - 1) e;
-        plain = record k.facts.plain { processes = slice_set k.facts.plain.processes (p - 1) r };
+        plain = record k.facts.plain { running = slice_set k.facts.plain.running (p - 1) r };
         coming = [];
         weight = w;
       };
@@ -180,4 +179,4 @@ pub slice_at : (k new : Known) (p : ℕ) (t : Run) (s : Slice) (w : ℕ) (code :
     → IsSliceOf k new p s
 slice_at k new p t s w code versions q r d e some live known codes_ versions_ lives made process debuggee heavier is =
     slice_of k new p t s w lives (rw (← codes_, ← versions_, known) made) heavier
-    (is ∙ (placed k p r e w some ∙ rw (process, debuggee, live, known, codes_, versions_) refl))
+    (is ∙ (placed k p r e w some ∙ rw (process, debuggee, known, codes_, versions_) refl))

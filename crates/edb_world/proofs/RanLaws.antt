@@ -2,7 +2,8 @@
 
 use Rattle.std.proofs.Common.{◌≡◌, ℕ, true, Option, Some, unwrap_or, replicate, refl, ◌∙◌, ap}
 use Rattle.edb_model.specs.Running.{Run}
-use Rattle.edb_model.specs.Plain.{Process, Plain, process_at}
+use Rattle.edb_model.specs.Plain.{Plain}
+use Rattle.edb_model.specs.Plain as model
 use Rattle.edb_model.specs.Labels.{move, steps}
 use Rattle.edb_event.specs.declared.entry.Entry.TheVariants as entry
 use Rattle.edb_rules.specs.Plans.{Plan}
@@ -15,7 +16,7 @@ use Rattle.edb_world.proofs.Moves.{doing, doing_at, goes_move, moves_are_steps}
 
 -- the plain state that a slice leads to
 slice_reaches : (plan : Plan) (f : Facts) (p n : ℕ) (t : Run) (end : SliceEnd)
-    → (process_at f.plain p).running ≡ Some t
+    → (model.running_at f.plain p) ≡ Some t
     → IsSlice plan.code f.plain.versions (debugged_at f p).taken (debugged_at f p).meta t n end
     → steps plan.code f.plain (replicate n (move p)) ≡ Some (doing f.plain p (after_moves plan.code f.plain.versions n t))
 slice_reaches plan f p n t end lives slice =
@@ -23,7 +24,7 @@ slice_reaches plan f p n t end lives slice =
     (λ i less. goes_move (debugged_at f p).taken (debugged_at f p).meta i (after_moves plan.code f.plain.versions i t) (slice.goes i less))
 
 pub ran_may : (plan : Plan) (f : Facts) (p n : ℕ) (t : Run) (end : SliceEnd) → MayBegin plan f → (debugged_at f p).out ≡ true
-    → (process_at f.plain p).running ≡ Some t
+    → (model.running_at f.plain p) ≡ Some t
     → IsSlice plan.code f.plain.versions (debugged_at f p).taken (debugged_at f p).meta t n end → May plan f (entry.Ran p n 0)
 ran_may plan f p n t end begin out lives slice =
     record {
@@ -34,17 +35,17 @@ ran_may plan f p n t end begin out lives slice =
 
 -- what the process has to do behind it
 pub ran_running : (plan : Plan) (f : Facts) (p n : ℕ) (t : Run) (end : SliceEnd) → MayBegin plan f → (debugged_at f p).out ≡ true
-    → (process_at f.plain p).running ≡ Some t
+    → (model.running_at f.plain p) ≡ Some t
     → IsSlice plan.code f.plain.versions (debugged_at f p).taken (debugged_at f p).meta t n end
-    → (process_at (note plan f (entry.Ran p n 0)).plain p).running ≡ Some (after_moves plan.code f.plain.versions n t)
+    → (model.running_at (note plan f (entry.Ran p n 0)).plain p) ≡ Some (after_moves plan.code f.plain.versions n t)
 ran_running plan f p n t end begin out lives slice =
     let u = after_moves plan.code f.plain.versions n t in
     let is : (note plan f (entry.Ran p n 0)).plain ≡ doing f.plain p u = ap (λ (o : Option Plain). unwrap_or o f.plain) (slice_reaches plan f p n t end lives slice) in
-    ap (λ (x : Plain). (process_at x p).running) is ∙ ap (λ (q : Process). q.running) (doing_at f.plain p t u lives)
+    ap (λ (x : Plain). (model.running_at x p)) is ∙ doing_at f.plain p t u lives
 
 -- the entries that have to stand behind it
 pub ran_coming : (plan : Plan) (f : Facts) (p n : ℕ) (t : Run) (end : SliceEnd) → MayBegin plan f → (debugged_at f p).out ≡ true
-    → (process_at f.plain p).running ≡ Some t
+    → (model.running_at f.plain p) ≡ Some t
     → IsSlice plan.code f.plain.versions (debugged_at f p).taken (debugged_at f p).meta t n end
     → (note plan f (entry.Ran p n 0)).coming ≡ end_entries p (after_moves plan.code f.plain.versions n t) end
 ran_coming plan f p n t end begin out lives slice = coming_is plan f p n t end lives slice.ends

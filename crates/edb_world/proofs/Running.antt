@@ -7,7 +7,7 @@ use Rattle.edb_lang.specs.declared.small.Break.{Break}
 use Rattle.edb_model.specs.Running.{Run}
 use Rattle.edb_lang.specs.Syntax.{ModuleTree}
 use Rattle.edb_model.specs.Move.{Next, acts, begins, pure, next}
-use Rattle.edb_model.specs.Plain.{process_at}
+use Rattle.edb_model.specs.Plain as model
 use Rattle.edb_model.specs.Innermost.{innermost}
 use Rattle.edb_event.specs.declared.entry.Cause.TheVariants as cause
 use Rattle.edb_event.specs.declared.entry.Entry.{Entry}
@@ -156,7 +156,7 @@ pub low_enough : (w : World) (p : ℕ) (t : Run) → IsLeased w p → running_at
 low_enough w p t l lives =
     subst (λ (f : Facts). highest t ≤ f.weight) l.keeps.kept.facts
     (shallow w.state.plan w.journal.entries p t l.keeps.kept.legal
-    (ap (λ (f : Facts). (process_at f.plain p).running) l.keeps.kept.facts ∙ lives))
+    (ap (λ (f : Facts). (model.running_at f.plain p)) l.keeps.kept.facts ∙ lives))
 
 module _ (old new : World) (p : ℕ) (s : Slice) (l : IsLeased old p) (so : IsSliceOf old.state new.state p s)
     (entries : new.journal.entries ≡ old.journal.entries ++ entry.Ran p s.moves 0 ∷ []) where

@@ -1,10 +1,10 @@
 -- The entries of a slice may stand: its lease, its moves, and what ends it.
 
-use Rattle.std.proofs.Common.{◌≡◌, ℕ, zero, suc, ◌<◌, true, List, [], ◌∷◌, length, Some, slice_index_or, slice_set, refl, subst, arith}
+use Rattle.std.proofs.Common.{◌≡◌, ℕ, zero, suc, ◌<◌, true, List, [], ◌∷◌, length, Option, None, Some, slice_index_or, slice_set, refl, subst, arith}
 use Rattle.std.proofs.lemmas.Option.{none-some}
 use Rattle.edb_model.specs.Running.{Run}
 use Rattle.edb_model.specs.Move.{next, is_move}
-use Rattle.edb_model.specs.Plain.{Process, nobody, process_at}
+use Rattle.edb_model.specs.Plain as model
 use Rattle.edb_event.specs.declared.entry.Entry.{Entry}
 use Rattle.edb_event.specs.declared.entry.Entry.TheVariants as entry
 use Rattle.edb_rules.specs.Plans.{Plan}
@@ -26,7 +26,7 @@ lease_may k p begin quiet none first moves =
     }
 
 -- a process that has more to do is one that was made
-within : (qs : List Process) (n : ℕ) (t : Run) → (slice_index_or qs n nobody).running ≡ Some t → n < length qs
+within : (qs : List (Option Run)) (n : ℕ) (t : Run) → (slice_index_or qs n None) ≡ Some t → n < length qs
 within [] n t e = absurd (none-some t e)
 within (q ∷ qs) zero t e = omega arith
 within (q ∷ qs) (suc n) t e = omega (arith, within qs n t e)
@@ -37,10 +37,10 @@ here (x ∷ xs) zero d lt = refl
 here (x ∷ xs) (suc n) d lt = here xs n d (omega (arith, lt))
 
 -- what becomes known of a process that has more to do is known of it
-pub known_here : (f : Facts) (p : ℕ) (d : Debugged) (t : Run) → length f.debugged ≡ length f.plain.processes → (process_at f.plain p).running ≡ Some t
+pub known_here : (f : Facts) (p : ℕ) (d : Debugged) (t : Run) → length f.debugged ≡ length f.plain.running → (model.running_at f.plain p) ≡ Some t
     → debugged_at (with_debugged f p d) p ≡ d
 known_here f zero d t same lives = absurd (none-some t lives)
-known_here f (suc n) d t same lives = here f.debugged n d (omega (arith, same, within f.plain.processes n t lives))
+known_here f (suc n) d t same lives = here f.debugged n d (omega (arith, same, within f.plain.running n t lives))
 
-pub agrees : (plan : Plan) (journal : List Entry) (f : Facts) → IsKept plan journal f → length f.debugged ≡ length f.plain.processes
-agrees plan journal f k = subst (λ (g : Facts). length g.debugged ≡ length g.plain.processes) k.facts (lists_agree plan journal k.legal)
+pub agrees : (plan : Plan) (journal : List Entry) (f : Facts) → IsKept plan journal f → length f.debugged ≡ length f.plain.running
+agrees plan journal f k = subst (λ (g : Facts). length g.debugged ≡ length g.plain.running) k.facts (lists_agree plan journal k.legal)

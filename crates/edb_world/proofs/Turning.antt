@@ -55,8 +55,8 @@ pub weighed : (plan : Plan) (journal : List Entry) (f : Facts) → IsKept plan j
 weighed plan journal f k = sym (weight_is plan journal) ∙ ap (λ (g : Facts). g.weight) k.facts
 
 -- how many processes there are, and that the last turn was one's
-pub few_here : (w : World) → Keeps w → length w.state.facts.plain.processes ≤ 65536
-few_here w k = subst (λ (f : Facts). length f.plain.processes ≤ 65536) k.kept.facts (few_processes w.state.plan w.journal.entries k.kept.legal)
+pub few_here : (w : World) → Keeps w → length w.state.facts.plain.running ≤ 65536
+few_here w k = subst (λ (f : Facts). length f.plain.running ≤ 65536) k.kept.facts (few_processes w.state.plan w.journal.entries k.kept.legal)
 
-pub turn_here : (w : World) → Keeps w → w.state.facts.turn ≤ length w.state.facts.plain.processes
-turn_here w k = subst (λ (f : Facts). f.turn ≤ length f.plain.processes) k.kept.facts (turn_within w.state.plan w.journal.entries k.kept.legal)
+pub turn_here : (w : World) → Keeps w → w.state.facts.turn ≤ length w.state.facts.plain.running
+turn_here w k = subst (λ (f : Facts). f.turn ≤ length f.plain.running) k.kept.facts (turn_within w.state.plan w.journal.entries k.kept.legal)

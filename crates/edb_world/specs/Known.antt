@@ -2,7 +2,7 @@
 
 use Rattle.std.specs.Prelude.{ℕ, ◌+◌, ◌-◌, min, if◌then◌else◌, nat_lt, List, length, Option}
 use Rattle.edb_model.specs.Running.{Run}
-use Rattle.edb_model.specs.Plain.{process_at}
+use Rattle.edb_model.specs.Plain as model
 use Rattle.edb_model.specs.Labels.{most_processes}
 use Rattle.edb_event.specs.declared.call.Call.{Call}
 use Rattle.edb_event.specs.declared.call.Call.TheVariants as call
@@ -32,7 +32,7 @@ coming es k = record k { facts = record k.facts { coming = es } }
 
 -- what is left to do for process p
 abbrev pub running_at : Known → ℕ → Option Run
-running_at k p = (process_at k.facts.plain p).running
+running_at k p = (model.running_at k.facts.plain p)
 
 -- the budget of a lease: the lesser of a slice and of what is left of the weight after it
 abbrev pub budget_of : Known → ℕ
@@ -41,8 +41,8 @@ budget_of k = min k.plan.slice (k.plan.most - (k.facts.weight + 1))
 -- the entry of an enabled command: a start that is accepted has its own, every other one is served
 abbrev pub command_entry : Known → Call → Entry
 command_entry k (call.Start m n args) =
-    if nat_lt (length k.facts.plain.processes) most_processes
-    then entry.Start 1 (length k.facts.plain.processes + 1) m n args
+    if nat_lt (length k.facts.plain.running) most_processes
+    then entry.Start 1 (length k.facts.plain.running + 1) m n args
     else entry.Served 1 (call.Start m n args) (reply_to k.plan k.facts 1 (call.Start m n args))
 command_entry k x = entry.Served 1 x (reply_to k.plan k.facts 1 x)
 

@@ -3,7 +3,8 @@
 use Rattle.std.specs.Prelude.{ℕ, ◌+◌, ◌<◌, ◌≤◌, if◌then◌else◌, List, length, [], ◌∷◌, ◌++◌}
 use Rattle.edb_breaks.specs.Table.{with_row}
 use Rattle.edb_model.specs.Running.{Run}
-use Rattle.edb_model.specs.Plain.{Plain, newborn}
+use Rattle.edb_model.specs.Plain.{Plain}
+use Rattle.edb_model.specs.Plain as model
 use Rattle.edb_event.specs.declared.call.Call.{Call}
 use Rattle.edb_rules.specs.Facts.{Server, unseen, is_among}
 use Rattle.edb_rules.specs.Replies.{served}
@@ -34,10 +35,6 @@ pub record IsCounted (k : Known) : Type 0 where
 abbrev pub served_known : Known → Call → Known
 served_known k x = record k { facts = served k.facts 1 x }
 
--- with one process more, which does this next
-abbrev pub begun : Plain → Run → Plain
-begun s t = record s { processes = s.processes ++ newborn t ∷ [] }
-
 -- with one process more, which does this next, and of which the debugger knows nothing
 abbrev pub with_newborn : Known → Run → Known
-with_newborn k t = record k { facts = record k.facts { plain = begun k.facts.plain t; debugged = k.facts.debugged ++ unseen ∷ [] } }
+with_newborn k t = record k { facts = record k.facts { plain = model.with_newborn k.facts.plain t; debugged = k.facts.debugged ++ unseen ∷ [] } }

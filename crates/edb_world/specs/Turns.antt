@@ -4,8 +4,8 @@ use Rattle.std.specs.Prelude.{◌≡◌, ℕ, true, List, [], ◌∷◌, Option,
 use Rattle.edb_lang.specs.declared.small.Break.{Break}
 use Rattle.edb_lang.specs.Syntax.{ModuleTree}
 use Rattle.edb_lang.specs.TermText.{term_text}
-use Rattle.edb_model.specs.declared.act.ActKind.{ActKind}
-use Rattle.edb_model.specs.declared.act.ActKind.TheVariants as kind
+use Rattle.edb_lang.specs.declared.act.ActKind.{ActKind}
+use Rattle.edb_lang.specs.declared.act.ActKind.TheVariants as kind
 use Rattle.edb_model.specs.Running.{Run}
 use Rattle.edb_model.specs.Move.{Next, acts, is_move, next}
 use Rattle.edb_model.specs.Innermost.{innermost}
@@ -54,7 +54,7 @@ IsStopAt (Some end) (Some s) = IsStop s end
 abbrev pub MakesSlice : List ModuleTree → List (List ℕ × ℕ) → Debugged → Run → Slice → Type 0
 MakesSlice code versions d t s = (end : SliceEnd) × IsSlice code versions d.taken d.meta t s.moves end × IsStop s.stop end
 
--- Process p made the moves of one slice; what has to stand behind it is kept by nobody yet.
+-- Process p made the moves of one slice; what has to stand behind it is kept by None yet.
 pub record IsSliceOf (old new : Known) (p : ℕ) (s : Slice) : Type 0 where
   pub running : Run
   pub lives : running_at old p ≡ Some running

@@ -1,7 +1,7 @@
 //! Shared acts: what a process does to the world.
 
 ghost use Rattle.std.specs.Prelude.{◌≡◌, ◌<◌, ◌+◌, ◌^◌, Some, IfOk};
-ghost use Rattle.edb_model.specs.declared.act.ActKind.TheVariants as kind;
+ghost use Rattle.edb_lang.specs.declared.act.ActKind.TheVariants as kind;
 ghost use Rattle.edb_model.specs.Running.{Run};
 ghost use Rattle.edb_model.specs.Move.{next, acts};
 ghost use Rattle.edb_world.specs.Known.{noted, running_at};
@@ -12,8 +12,7 @@ ghost use Rattle.edb_rules.specs.Legal.{IsReady, printed_by};
 use crate::state::State;
 use edb_eval::Process;
 use edb_event::Entry;
-use edb_lang::{Bytes, Name, Term};
-use edb_model::ActKind;
+use edb_lang::{ActKind, Bytes, Name, Term};
 use edb_text::term_text;
 use std::alloc::{AllocError, Global};
 
@@ -71,7 +70,8 @@ impl<'a> State<'a> {
         let place = (pid - 1) as usize;
         let reason = self.running(pid).reason(self.alloc)?;
         let value = term_text(self.alloc, &reason)?;
-        self.processes[place].end(reason);
+        self.processes[place].end();
+        self.members[place].end(reason);
         self.debuggees[place].end();
         self.turn = pid;
         self.weight += 1;

@@ -13,7 +13,7 @@ ghost use Rattle.edb_world.specs.Known.{noted, command_entry};
 ghost use Rattle.edb_world.specs.Served.{IsCounted, counted, served_known, with_newborn};
 
 use crate::debuggee::Debuggee;
-use crate::live::Live;
+use crate::live::{Live, Member};
 use crate::state::State;
 use edb_eval::Process;
 use edb_event::{Call, Entry, ProcStatus, Reply, Word};
@@ -34,6 +34,9 @@ fn about(call: Call, pid: u32) -> Call
         Call::Next { .. } => Call::Next { pid },
         Call::Finish { .. } => Call::Finish { pid },
         Call::Halt { .. } => Call::Halt { pid },
+        Call::Skip { .. } => Call::Skip { pid },
+        Call::Kill { .. } => Call::Kill { pid },
+        Call::Timeout { .. } => Call::Timeout { pid },
         Call::Continue { .. } => Call::Continue { pid },
         Call::Bindings { .. } => Call::Bindings { pid },
         Call::Frames { .. } => Call::Frames { pid },
@@ -132,10 +135,10 @@ impl<'a> State<'a> {
     /// Starts a process.
     fn start(&mut self, module: Name, name: Name, args: Term) -> Result<Entry, AllocError>
         requires left { self.old.facts.served < length self.old.plan.commands }
-        requires few { length self.old.facts.plain.processes < 65536 }
+        requires few { length self.old.facts.plain.running < 65536 }
         requires fits { self.old.facts.weight + 1 < 2 ^ 32 }
         ensures entry { IfOk result (λ e.
-            e ≡ entry.Start 1 (length self.old.facts.plain.processes + 1) «module» name args) }
+            e ≡ entry.Start 1 (length self.old.facts.plain.running + 1) «module» name args) }
         ensures state { IfOk result (λ e. self.new ≡ noted self.old e) }
     {
         let pid = self.processes.len() as u32 + 1;
@@ -159,7 +162,9 @@ impl<'a> State<'a> {
         ensures { OnOk result (self.new ≡ with_newborn self.old process.entry) }
     {
         self.debuggees.reserve(1)?;
+        self.members.reserve(1)?;
         self.processes.push(Live::newborn(process))?;
+        self.members.push_reserved(Member::new());
         self.debuggees.push_reserved(Debuggee::unseen(self.alloc));
         Ok(())
     }
@@ -251,7 +256,7 @@ impl<'a> State<'a> {
 
     /// Lets a process go on, where it is stopped.
     fn resume(&mut self, pid: u32)
-        requires made { (1 ≤ pid) × (pid ≤ length self.old.facts.plain.processes) }
+        requires made { (1 ≤ pid) × (pid ≤ length self.old.facts.plain.running) }
         ensures { self.new ≡ served_known self.old (call.Continue pid) }
     {
         self.debuggees[(pid - 1) as usize].stopped = false;

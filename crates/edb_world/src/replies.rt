@@ -11,8 +11,7 @@ use crate::commands::MOST_PROCESSES;
 use crate::debuggee::Debuggee;
 use crate::state::State;
 use edb_event::{Call, ProcStatus, Refusal, Reply};
-use edb_lang::{Bindings, Bytes, Captured, Name};
-use edb_model::Rows;
+use edb_lang::{Bindings, Bytes, Captured, Name, Rows};
 use edb_text::put_term;
 use std::alloc::{AllocError, Global};
 

@@ -233,11 +233,11 @@ impl<'a> Live<'a> {
         code: &'a Code,
         debuggee: &Debuggee,
     ) -> Result<Slice, AllocError>
-        requires lives { IsSome self.old.running }
+        requires lives { IsSome self.old }
         requires some { 1 ≤ debuggee.now.taken.budget }
-        requires room { (t : Run) → self.old.running ≡ Some t → highest t + debuggee.now.taken.budget < 2 ^ 63 }
-        ensures slice { IfOk result (λ s. (t : Run) → self.old.running ≡ Some t → MakesSlice code.now (first_versions code.now) debuggee.now t s) }
-        ensures process { IfOk result (λ s. (t : Run) → self.old.running ≡ Some t → self.new ≡ record self.old { running = Some (after_moves code.now (first_versions code.now) s.moves t) }) }
+        requires room { (t : Run) → self.old ≡ Some t → highest t + debuggee.now.taken.budget < 2 ^ 63 }
+        ensures slice { IfOk result (λ s. (t : Run) → self.old ≡ Some t → MakesSlice code.now (first_versions code.now) debuggee.now t s) }
+        ensures process { IfOk result (λ s. (t : Run) → self.old ≡ Some t → self.new ≡ Some (after_moves code.now (first_versions code.now) s.moves t)) }
         ensures bound { IfOk result (λ s. s.moves ≤ debuggee.now.taken.budget) }
     {
         let Some(process) = &mut self.running else {

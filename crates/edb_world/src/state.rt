@@ -1,15 +1,17 @@
 //! The state of a world: all that the rules of a journal look at.
 
 ghost use Rattle.std.specs.Prelude.{◌≡◌, ◌<◌, ◌≤◌, ◌-◌, ◌^◌, [], None, false, length, MatchBool, IfOk};
-ghost use Rattle.edb_model.specs.Plain.{process_rows, tables_of};
+ghost use Rattle.edb_model.specs.Bonds.{no_bonds};
+ghost use Rattle.edb_model.specs.Procs.{process_rows};
+ghost use Rattle.edb_model.specs.Plain.{tables_of};
 ghost use Rattle.edb_world.specs.Known.{known_first};
 
 use crate::debuggee::{Debuggee, Trigger};
-use crate::live::Live;
+use crate::live::{Live, Member};
 use crate::server::Interpreter;
 use edb_event::Command;
-use edb_lang::{Bytes, Term};
-use edb_model::{Code, ProcRow, Rows, Tables};
+use edb_lang::{Bytes, Rows, Term};
+use edb_model::{Code, ProcRow, Tables};
 use std::alloc::{AllocError, Global};
 use std::marker::Model;
 use std::mem;
@@ -23,6 +25,7 @@ pub(crate) struct State<'a> {
     pub(crate) slice: u32,
     pub(crate) most: u32,
     pub(crate) processes: Vec<Live<'a>>,
+    pub(crate) members: Vec<Member>,
     pub(crate) output: Bytes,
     pub(crate) server: Interpreter,
     pub(crate) debuggees: Vec<Debuggee>,
@@ -41,6 +44,7 @@ impl<'a> Model for State<'a> {
     ghost use Rattle.edb_lang.specs.SyntaxCodes.{coded_module};
     ghost use Rattle.edb_model.specs.Lookup.{first_versions};
     ghost use Rattle.edb_model.specs.RunningCodes.{coded_run};
+    ghost use Rattle.edb_model.specs.Bonds.{no_bonds};
     ghost use Rattle.edb_world.specs.Known.{Known};
 
     ghost Value = { Known };
@@ -50,7 +54,12 @@ impl<'a> Model for State<'a> {
     ghost view = { λ s. record {
       plan = record { code = s.code.now; commands = s.commands.now; slice = s.slice; most = s.most };
       facts = record {
-        plain = record { processes = s.processes.items; names = []; signals = []; versions = first_versions s.code.now; clock = 0; output = s.output; references = 0 };
+        plain = record {
+          procs = record { members = s.members.items; names = []; bonds = no_bonds; clock = 0; references = 0 };
+          running = s.processes.items;
+          versions = first_versions s.code.now;
+          output = s.output;
+        };
         server = s.server;
         debugged = s.debuggees.items;
         served = s.served;
@@ -63,7 +72,7 @@ impl<'a> Model for State<'a> {
       };
     } };
 
-    ghost invariant = { λ s. (length s.debuggees.items ≡ length s.processes.items) × (s.server.table.given ≤ s.served) };
+    ghost invariant = { λ s. (length s.debuggees.items ≡ length s.processes.items) × (length s.members.items ≡ length s.processes.items) × (s.server.table.given ≤ s.served) };
 }
 
 impl<'a> State<'a> {
@@ -84,6 +93,7 @@ impl<'a> State<'a> {
             slice,
             most,
             processes: Vec::new(alloc),
+            members: Vec::new(alloc),
             output: Bytes::new(alloc),
             server: Interpreter::new(alloc),
             debuggees: Vec::new(alloc),
@@ -105,10 +115,10 @@ impl<'a> State<'a> {
 
     /// The tables that the run leaves; the state keeps neither the output nor the reasons of its processes.
     pub(crate) fn take_tables(&mut self) -> Result<Tables, AllocError>
-        requires few { length self.old.facts.plain.processes < 2 ^ 32 - 1 }
+        requires few { length self.old.facts.plain.running < 2 ^ 32 - 1 }
         ensures { IfOk result (λ tables. tables ≡ tables_of self.old.facts.plain) }
     {
-        let processes = take_rows(self.alloc, &mut self.processes)?;
+        let processes = take_rows(self.alloc, &mut self.members)?;
         Ok(Tables {
             processes,
             names: Rows::new(self.alloc),
@@ -120,16 +130,16 @@ impl<'a> State<'a> {
 }
 
 /// The rows that show the processes, by number from 1; the processes keep their reasons no longer.
-fn take_rows(alloc: Global, processes: &mut [Live<'_>]) -> Result<Rows<ProcRow>, AllocError>
-    requires few { length processes.old < 2 ^ 32 - 1 }
-    ensures rows { IfOk result (λ rows. rows ≡ process_rows 1 processes.old) }
-    ensures same { length processes.new ≡ length processes.old }
+fn take_rows(alloc: Global, members: &mut [Member]) -> Result<Rows<ProcRow>, AllocError>
+    requires few { length members.old < 2 ^ 32 - 1 }
+    ensures rows { IfOk result (λ rows. rows ≡ process_rows no_bonds 1 members.old) }
+    ensures same { length members.new ≡ length members.old }
 {
     let mut rows = Rows::new(alloc);
     let mut pid = 0u32;
-    for live in processes.iter_mut() {
+    for member in members.iter_mut() {
         pid += 1;
-        rows.push(process_row(alloc, pid, live.exit.take()))?;
+        rows.push(process_row(alloc, pid, member.exit.take()))?;
     }
     Ok(rows)
 }

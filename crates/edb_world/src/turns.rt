@@ -9,7 +9,7 @@ ghost use Rattle.edb_world.specs.Turns.{IsFirstReady, IsTurn};
 
 use crate::state::State;
 use edb_eval::{Kind, Process};
-use edb_model::ActKind;
+use edb_lang::ActKind;
 
 /// The turn of a process: what is next for it.
 #[derive(Clone, Copy, PartialEq, Eq, Debug)]
@@ -54,8 +54,8 @@ impl<'a> State<'a> {
 
     /// The process that has the next turn: turns go round by number, from the one that had the last.
     pub(crate) fn next_turn(&self) -> Option<u32>
-        requires few { length self.now.facts.plain.processes < 2 ^ 32 - 1 }
-        requires within { self.now.facts.turn ≤ length self.now.facts.plain.processes }
+        requires few { length self.now.facts.plain.running < 2 ^ 32 - 1 }
+        requires within { self.now.facts.turn ≤ length self.now.facts.plain.running }
         ensures { MatchOption result ((q : ℕ) → IsReady self.now.facts q → ⊥) (λ p. IsFirstReady self.now.facts p) }
     {
         let below = self.processes.len() as u32 + 1;

@@ -1,5 +1,5 @@
 use Rattle.std.proofs.Common.{◌≡◌, ℕ, ◌+◌, List, ◌++◌, take, drop, Some, sym, ◌∙◌, ap, subst, Bool, append_assoc, arith}
-use Rattle.edb_session.specs.Ends.{IsKeptOrSet}
+use Rattle.edb_files.specs.Lines.{IsKeptOrSet}
 use Rattle.edb_report.specs.Rendering.{entry_text, transcript}
 use Rattle.edb_session.proofs.Lines.{transcript_more, transcript_whole}
 use Rattle.edb_session.proofs.render.write_transcript.Goals as goal

@@ -1,6 +1,5 @@
-use Rattle.std.proofs.Common.{rules, ◌≡◌, ◌++◌, eqb, length, false, arith}
+use Rattle.std.proofs.Common.{rules, ◌≡◌, eqb, length, false, arith}
 use Rattle.std.proofs.lemmas.Grind.{common_steps}
-use Rattle.edb_lang.specs.Terms.{of_list}
 use Rattle.edb_lang.specs.TermText.{text, tuple_text, items_text}
 use Rattle.edb_text.proofs.Braces.{braced}
 use Rattle.edb_text.proofs.terms.+put_term.Goals as goal

@@ -4,7 +4,7 @@ use Rattle.edb_event.specs.Ranges.{IsEntry}
 use Rattle.edb_event.specs.Weights.{weight_of}
 use Rattle.edb_rules.specs.Facts.{Facts}
 use Rattle.edb_rules.specs.Notes.{enter_entry}
-use Rattle.edb_model.specs.Plain.{process_at}
+use Rattle.edb_model.specs.Plain as model
 use Rattle.edb_rules.proofs.Bounds.{innermost_bounded}
 use Rattle.edb_world.specs.Known.{running_at}
 use Rattle.edb_world.specs.Turns.{IsEndNoted}
@@ -15,7 +15,7 @@ pub enter-requires-clause-arity : goal.enter-requires-clause-arity
 enter-requires-clause-arity c = λ t i lives is.
     let kept = (c.requires.next t lives).1.kept in
     (innermost_bounded c.args.self.now.state.plan c.args.self.now.journal.entries c.args.pid t i c.requires.plan.bounds kept.legal
-    (ap (λ (f : Facts). (process_at f.plain c.args.pid).running) kept.facts ∙ lives) is).2
+    (ap (λ (f : Facts). (model.running_at f.plain c.args.pid)) kept.facts ∙ lives) is).2
 
 pub push-requires-clause-range : goal.push-requires-clause-range
 push-requires-clause-range c =

@@ -1,5 +1,5 @@
 use Rattle.std.proofs.Common.{◌≡◌, ap, subst, arith}
-use Rattle.edb_model.specs.declared.act.ActKind.TheVariants as kind
+use Rattle.edb_lang.specs.declared.act.ActKind.TheVariants as kind
 use Rattle.edb_model.specs.Move.{next}
 use Rattle.edb_event.specs.Weights.{weight_of}
 use Rattle.edb_world.specs.declared.turns.Turn.{Turn}

@@ -1,5 +1,6 @@
 use Rattle.std.proofs.Common.{[], ◌∷◌, refl, ◌∙◌, ap, arith}
-use Rattle.edb_model.specs.Plain.{Plain, process_at}
+use Rattle.edb_model.specs.Plain.{Plain}
+use Rattle.edb_model.specs.Plain as model
 use Rattle.edb_rules.specs.Facts.{debugged_at}
 use Rattle.edb_rules.specs.Slices.{after_moves}
 use Rattle.edb_rules.specs.Notes.{stop_entry}
@@ -94,12 +95,12 @@ stop-requires-clause-bound c =
 
 pub stop-requires-clause-lives : goal.stop-requires-clause-lives
 stop-requires-clause-lives c =
-    is_some_here (running_at c.enter-in-EntersAndStops.new.self.state c.args.pid) (after_moves c.args.self.now.state.plan.code c.args.self.now.state.facts.plain.versions c.in_ok-slice.slice.moves c.in_ok-slice.ensures.running) (ap (λ (s : Plain). (process_at s c.args.pid).running) c.in_ok-enter-in-EntersAndStops.ensures.same.plain ∙ ran_lives c.args.self.now (record { state = c.run.new.self; journal = c.push.new.self }) c.args.pid c.in_ok-slice.slice c.requires.leased c.in_ok-slice.ensures c.in_ok-push.ensures.ok)
+    is_some_here (running_at c.enter-in-EntersAndStops.new.self.state c.args.pid) (after_moves c.args.self.now.state.plan.code c.args.self.now.state.facts.plain.versions c.in_ok-slice.slice.moves c.in_ok-slice.ensures.running) (ap (λ (s : Plain). (model.running_at s c.args.pid)) c.in_ok-enter-in-EntersAndStops.ensures.same.plain ∙ ran_lives c.args.self.now (record { state = c.run.new.self; journal = c.push.new.self }) c.args.pid c.in_ok-slice.slice c.requires.leased c.in_ok-slice.ensures c.in_ok-push.ensures.ok)
 
 pub stop-requires-clause-next : goal.stop-requires-clause-next
 stop-requires-clause-next c =
     let both = both_awaits c.args.self.now (record { state = c.run.new.self; journal = c.push.new.self }) c.args.pid c.in_ok-slice.slice c.requires.leased c.in_ok-slice.ensures c.in_ok-push.ensures.ok c.in-EntersAndStops.serial c.in-EntersAndStops.is in
-    stop_next c.enter-in-EntersAndStops.new.self c.args.pid c.in-EntersAndStops.serial (after_moves c.args.self.now.state.plan.code c.args.self.now.state.facts.plain.versions c.in_ok-slice.slice.moves c.in_ok-slice.ensures.running) both.0 [] (ap (λ (s : Plain). (process_at s c.args.pid).running) c.in_ok-enter-in-EntersAndStops.ensures.same.plain ∙ ran_lives c.args.self.now (record { state = c.run.new.self; journal = c.push.new.self }) c.args.pid c.in_ok-slice.slice c.requires.leased c.in_ok-slice.ensures c.in_ok-push.ensures.ok) both.1
+    stop_next c.enter-in-EntersAndStops.new.self c.args.pid c.in-EntersAndStops.serial (after_moves c.args.self.now.state.plan.code c.args.self.now.state.facts.plain.versions c.in_ok-slice.slice.moves c.in_ok-slice.ensures.running) both.0 [] (ap (λ (s : Plain). (model.running_at s c.args.pid)) c.in_ok-enter-in-EntersAndStops.ensures.same.plain ∙ ran_lives c.args.self.now (record { state = c.run.new.self; journal = c.push.new.self }) c.args.pid c.in_ok-slice.slice c.requires.leased c.in_ok-slice.ensures c.in_ok-push.ensures.ok) both.1
     (c.in_ok-enter-in-EntersAndStops.ensures.keeps (after_moves c.args.self.now.state.plan.code c.args.self.now.state.facts.plain.versions c.in_ok-slice.slice.moves c.in_ok-slice.ensures.running) (stop_entry c.args.pid (after_moves c.args.self.now.state.plan.code c.args.self.now.state.facts.plain.versions c.in_ok-slice.slice.moves c.in_ok-slice.ensures.running) both.0 ∷ []) (ran_lives c.args.self.now (record { state = c.run.new.self; journal = c.push.new.self }) c.args.pid c.in_ok-slice.slice c.requires.leased c.in_ok-slice.ensures c.in_ok-push.ensures.ok) both.2)
 
 pub returns-in-ActNext : goal.returns-in-ActNext
@@ -147,7 +148,7 @@ pub returns-in_ok-stop-in-EntersAndStops : goal.returns-in_ok-stop-in-EntersAndS
 returns-in_ok-stop-in-EntersAndStops c =
     let both = both_awaits c.args.self.now (record { state = c.run.new.self; journal = c.push.new.self }) c.args.pid c.in_ok-slice.slice c.requires.leased c.in_ok-slice.ensures c.in_ok-push.ensures.ok c.in-EntersAndStops.serial c.in-EntersAndStops.is in
     ended_went c.args.self.now (record { state = c.run.new.self; journal = c.push.new.self }) c.args.pid c.in_ok-slice.slice c.requires.leased c.in_ok-slice.ensures c.in_ok-push.ensures.ok c.stop.new.self
-    (c.in_ok-stop-in-EntersAndStops.ensures.keeps (after_moves c.args.self.now.state.plan.code c.args.self.now.state.facts.plain.versions c.in_ok-slice.slice.moves c.in_ok-slice.ensures.running) both.0 [] (ap (λ (s : Plain). (process_at s c.args.pid).running) c.in_ok-enter-in-EntersAndStops.ensures.same.plain ∙ ran_lives c.args.self.now (record { state = c.run.new.self; journal = c.push.new.self }) c.args.pid c.in_ok-slice.slice c.requires.leased c.in_ok-slice.ensures c.in_ok-push.ensures.ok) both.1
+    (c.in_ok-stop-in-EntersAndStops.ensures.keeps (after_moves c.args.self.now.state.plan.code c.args.self.now.state.facts.plain.versions c.in_ok-slice.slice.moves c.in_ok-slice.ensures.running) both.0 [] (ap (λ (s : Plain). (model.running_at s c.args.pid)) c.in_ok-enter-in-EntersAndStops.ensures.same.plain ∙ ran_lives c.args.self.now (record { state = c.run.new.self; journal = c.push.new.self }) c.args.pid c.in_ok-slice.slice c.requires.leased c.in_ok-slice.ensures c.in_ok-push.ensures.ok) both.1
     (c.in_ok-enter-in-EntersAndStops.ensures.keeps (after_moves c.args.self.now.state.plan.code c.args.self.now.state.facts.plain.versions c.in_ok-slice.slice.moves c.in_ok-slice.ensures.running) (stop_entry c.args.pid (after_moves c.args.self.now.state.plan.code c.args.self.now.state.facts.plain.versions c.in_ok-slice.slice.moves c.in_ok-slice.ensures.running) both.0 ∷ []) (ran_lives c.args.self.now (record { state = c.run.new.self; journal = c.push.new.self }) c.args.pid c.in_ok-slice.slice c.requires.leased c.in_ok-slice.ensures c.in_ok-push.ensures.ok) both.2))
     (calm_free c.enter-in-EntersAndStops.new.self c.stop.new.self c.in_ok-stop-in-EntersAndStops.ensures.same (calm_free (record { state = c.run.new.self; journal = c.push.new.self }) c.enter-in-EntersAndStops.new.self c.in_ok-enter-in-EntersAndStops.ensures.same (ran_free c.args.self.now (record { state = c.run.new.self; journal = c.push.new.self }) c.args.pid c.in_ok-slice.slice c.requires.leased c.in_ok-slice.ensures c.in_ok-push.ensures.ok)))
     (c.in_ok-stop-in-EntersAndStops.ensures.same.plan ∙ c.in_ok-enter-in-EntersAndStops.ensures.same.plan)

@@ -1,5 +1,0 @@
-use Rattle.std.proofs.Common.{◌≤◌, length}
-use Rattle.edb_breaks.proofs.tests.rows_in_the_order_of_their_making.Given as goal
-
-abbrev pub invariant-loop-module : goal.invariant-loop-module
-invariant-loop-module g l = (l.breaks.given ≤ l.module-index) × (length l.module-items ≤ 5)

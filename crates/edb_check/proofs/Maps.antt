@@ -1,0 +1,9 @@
+-- A test of what the items of a list map to is a test of the items.
+
+use Rattle.std.specs.Prelude.{List, [], ◌∷◌, Bool, ◌||◌, map}
+use Rattle.std.specs.List.{list_any}
+use Rattle.std.proofs.Common.{◌≡◌, ap, refl}
+
+pub list_any-map : {X Y : Type 0} (test : Y → Bool) (f : X → Y) (xs : List X) → list_any test (map f xs) ≡ list_any (λ x. test (f x)) xs
+list_any-map test f [] = refl
+list_any-map test f (x ∷ xs) = ap (λ b. test (f x) || b) (list_any-map test f xs)

@@ -1,0 +1,11 @@
+pub mod CountLaws
+pub mod RowTerms
+pub mod RowsArithmetic
+pub mod RowsBits
+pub mod RowsLists
+pub mod RowsKeys
+pub mod RowsTexts
+pub mod RowsKinds
+pub mod RowsTable
+pub mod ShiftLaws
+pub mod RangeLaws

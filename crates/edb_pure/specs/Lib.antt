@@ -1,0 +1,13 @@
+pub mod Answers
+pub mod Integers
+pub mod Bits
+pub mod Truths
+pub mod Operators
+pub mod Texts
+pub mod Tuples
+pub mod Kinds
+pub mod Sorting
+pub mod Lists
+pub mod Keys
+pub mod Lookups
+pub mod Table
