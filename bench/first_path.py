@@ -2,7 +2,7 @@
 """Times the program on three modules, plain and interpreted, and prints for each the pure moves, the seconds and the
 peak memory.
 
-Build the program first: in crates/edb, `rt run -- ../../examples/script ../../examples/shop.erl` leaves out/edb.
+Build the program first: in crates/edb, `rt run -- ../../examples/first.cmds ../../examples/shop.erl` leaves out/edb.
 The moves are counted here by the language's rules; the program prints none. No part of the gate.
 """
 import os
