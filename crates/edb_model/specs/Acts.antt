@@ -19,7 +19,8 @@ error_exit r = term.tuple (term.more r (term.more term.nil term.none))
 abbrev pub throw_exit : Datum → Datum
 throw_exit v = error_exit (term.tuple (term.more (term.atom (codes "nocatch")) (term.more v term.none)))
 
--- The reason with which a process ends: `normal` for a value, an exit's own reason, and the tuples above.
+-- The reason with which a process ends: `normal` for a value, an exit's own reason, and the tuples above, with the atom
+-- `system_limit` in the place of what would pass a limit.
 abbrev pub exit_reason : Run → Datum
 exit_reason (raised Error r) = framed error_exit r
 exit_reason (raised Exit r) = r
@@ -35,7 +36,8 @@ displayed _ = []
 abbrev pub true_term : Datum
 true_term = term.atom (codes "true")
 
--- the state after the act that is next for process p, whose expression is t; none where no act is next
+-- the state after the act that is next for process p, whose expression is t; none if no act is next, or one that doesn't
+-- come yet
 abbrev pub acted : Plain → ℕ → Run → Next → Option Plain
 acted s p t (acts act.Print) =
     Some (record (with_running s p (Some (answered true_term t))) { output = s.output ++ displayed (redex t).1 })

@@ -7,11 +7,11 @@ use Rattle.edb_model.specs.declared.tables.MonitorRow.{MonitorRow}
 use Rattle.edb_model.specs.declared.tables.SignalRow.{SignalRow}
 use Rattle.edb_model.specs.declared.tables.SignalRow.TheVariants as signal
 
--- process `from` watches process `to`, by a reference
+-- the watcher is told, by a reference, when the target ends
 pub record Monitor : Type 0 where
   pub reference : ℕ
-  pub from : ℕ
-  pub to : ℕ
+  pub watcher : ℕ
+  pub target : ℕ
 
 -- The links, each once, the lesser number first, ascending; the monitors, ascending by reference; and the signals in
 -- flight, in the order of their delivery.
@@ -27,25 +27,27 @@ no_bonds = record { links = []; monitors = []; signals = [] }
 abbrev pub partners : ℕ → List (ℕ × ℕ) → List ℕ
 partners p links = flat_map (λ l. if l.0 == p then l.1 ∷ [] else if l.1 == p then l.0 ∷ [] else []) links
 
--- the monitors that p made, and those of p
+-- the monitors that p made, and all others
 abbrev pub made_by : ℕ → List Monitor → List Monitor
-made_by p monitors = filter (λ m. m.from == p) monitors
-
-abbrev pub watching : ℕ → List Monitor → List Monitor
-watching p monitors = filter (λ m. m.to == p) monitors
+made_by p monitors = filter (λ m. m.watcher == p) monitors
 
 abbrev pub not_made_by : ℕ → List Monitor → List Monitor
-not_made_by p monitors = filter (λ m. not (m.from == p)) monitors
+not_made_by p monitors = filter (λ m. not (m.watcher == p)) monitors
+
+-- the monitors whose target is p
+abbrev pub monitors_of : ℕ → List Monitor → List Monitor
+monitors_of p monitors = filter (λ m. m.target == p) monitors
 
 abbrev pub monitor_row : Monitor → MonitorRow
-monitor_row m = record { reference = m.reference; target = m.to }
+monitor_row m = record { reference = m.reference; target = m.target }
 
--- Process p ends with a reason: its own monitors go, and then it sends an exit signal to each partner, ascending by
--- number, and a `DOWN` for each monitor of it, ascending by reference. A link goes when its signal is delivered.
+-- Process p ends with a reason: the monitors that it made go, also one of itself; then it sends an exit signal to each
+-- partner, ascending by number, and a `DOWN` to the watcher of each monitor of it, ascending by reference. The links and
+-- these monitors stay until their signals are delivered.
 abbrev pub after_exit : ℕ → Datum → Bonds → Bonds
 after_exit p reason bonds =
     record bonds {
       monitors = not_made_by p bonds.monitors;
       signals = (bonds.signals ++ map (λ q. signal.Link p q reason) (partners p bonds.links))
-          ++ map (λ m. signal.Down m.reference p m.from reason) (watching p (not_made_by p bonds.monitors));
+          ++ map (λ m. signal.Down m.reference p m.watcher reason) (monitors_of p (not_made_by p bonds.monitors));
     }

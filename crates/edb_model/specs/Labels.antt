@@ -1,4 +1,4 @@
--- Labels: the steps of a plain run, which has no debugger in it.
+-- Labels: the steps of a plain run, which has nothing of the debugger but for what `skip`, `kill` and `timeout` change.
 
 use Rattle.std.specs.Prelude.{◌≡◌, ℕ, List, [], ◌∷◌, ◌++◌, if◌then◌else◌, nat_lt, length, map, is_some, Option, None, Some}
 use Rattle.std.specs.Option.{option_and_then}
@@ -9,12 +9,13 @@ use Rattle.edb_model.specs.Running.{Run, opening_call}
 use Rattle.edb_model.specs.Lookup.{version_in}
 use Rattle.edb_model.specs.Move.{Next, next, is_move, moved}
 use Rattle.edb_model.specs.Plain.{Plain, opening, running_at, with_running, with_newborn}
+use Rattle.edb_model.specs.Procs.{most_processes}
 use Rattle.edb_model.specs.Acts.{acted}
 
 -- Process p makes a pure move; process p makes the act that is next for it; the first signal in flight is
 -- delivered; the clock goes on to a time; a process starts with the call of a module's function with the
 -- elements of a list; a version of a module becomes the current one; the expression that process p is about to begin is
--- left out; process p is ended; the time of process p, which waits for a message, runs out.
+-- left out; process p is ended; the deadline of process p, which waits for a message, becomes the clock.
 pub data Label : Type 0 where
   move : ℕ → Label
   act : ℕ → Label
@@ -26,10 +27,6 @@ pub data Label : Type 0 where
   kill : ℕ → Label
   expire : ℕ → Label
 
--- at most so many processes are ever made
-abbrev pub most_processes : ℕ
-most_processes = 65536
-
 abbrev pub moved_in : List ModuleTree → Plain → ℕ → Run → Plain
 moved_in code s p t = with_running s p (Some (moved code s.versions t))
 
@@ -37,8 +34,9 @@ moved_in code s p t = with_running s p (Some (moved code s.versions t))
 abbrev pub with_version : List ℕ → ℕ → List (List ℕ × ℕ) → List (List ℕ × ℕ)
 with_version m k versions = map (λ p. if same_name p.0 m then (p.0, k) else p) versions
 
--- The state after a label; none if the label isn't enabled. No act puts a signal in flight yet, and none sets a
--- deadline: these come with the acts that do. No console may skip, kill or let time run out yet.
+-- The state after a label; none if the label isn't enabled. No act makes a link or a monitor yet, so no signal is ever in
+-- flight, and none sets a deadline: these come with the acts that do, and so does that an act waits while a signal that
+-- its process sent is in flight. No console may skip, kill or let time run out yet.
 abbrev pub step : List ModuleTree → Plain → Label → Option Plain
 step code s (move p) =
     option_and_then (λ (t : Run). if is_move (next t) then Some (moved_in code s p t) else None) (running_at s p)

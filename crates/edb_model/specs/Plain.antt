@@ -6,7 +6,7 @@ use Rattle.edb_lang.specs.Syntax.{ModuleTree}
 use Rattle.edb_model.specs.declared.tables.Tables.{Tables}
 use Rattle.edb_model.specs.Running.{Run}
 use Rattle.edb_model.specs.Lookup.{first_versions}
-use Rattle.edb_model.specs.Procs.{Procs, no_procs, new_member, numbered, with_numbered, ended_in, process_rows}
+use Rattle.edb_model.specs.Procs.{Procs, no_procs, numbered, with_numbered, with_member, ended_in, tables_in}
 
 -- What the processes share; what each has to do, by number from 1, which is nothing once it has ended; the current
 -- versions; and what was printed.
@@ -29,23 +29,15 @@ with_running s p t = record s { running = with_numbered s.running p t }
 
 -- one process more, which does this
 abbrev pub with_newborn : Plain → Run → Plain
-with_newborn s t =
-    record s { procs = record s.procs { members = s.procs.members ++ new_member ∷ [] }; running = s.running ++ Some t ∷ [] }
+with_newborn s t = record s { procs = with_member s.procs; running = s.running ++ Some t ∷ [] }
 
--- THE END OF A PROCESS, whatever ends it: it has no more to do, and what it shared with others is settled.
+-- THE END OF A PROCESS that lives, whatever ends it: it has no more to do, and what it shared with others is settled.
 abbrev pub ended : Plain → ℕ → Datum → Plain
 ended s p reason = record (with_running s p None) { procs = ended_in p reason s.procs }
 
 -- what a run leaves to be seen
 abbrev pub tables_of : Plain → Tables
-tables_of s =
-    record {
-      processes = process_rows s.procs.bonds 1 s.procs.members;
-      names = s.procs.names;
-      signals = s.procs.bonds.signals;
-      clock = s.procs.clock;
-      output = s.output;
-    }
+tables_of s = tables_in s.procs s.output
 
 abbrev pub no_tables : Tables
 no_tables = record { processes = []; names = []; signals = []; clock = 0; output = [] }

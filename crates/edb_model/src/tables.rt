@@ -16,9 +16,9 @@ pub struct NameRow {
     pub pid: u32,
 }
 
-/// A signal in flight; `from` is the process that sent it. `Link` is the exit signal of a link at an
-/// end, `NoProc` that of a link to a process that has ended, `Exit` one that a process asked for, `Down`
-/// that of a monitor.
+/// A signal in flight; `from` is the process that sent it. `Link` is the exit signal of a link at the end
+/// of a process, `NoProc` that of a call of `link` whose target isn't there, `Exit` one that a process
+/// asked for, `Down` the message of a monitor.
 #[derive(Drop)]
 pub enum SignalRow {
     Link {
@@ -43,7 +43,8 @@ pub enum SignalRow {
     },
 }
 
-/// A process: its mailbox, its links and monitors by number, whether it traps exits, the deadline of its
+/// A process: its mailbox; its links by number, also those to a process that has ended whose exit signal
+/// is in flight; the monitors that it made, by reference; whether it traps exits, the deadline of its
 /// wait in milliseconds of virtual time, and the reason with which it ended, where it has ended.
 #[derive(Drop)]
 pub struct ProcRow {

@@ -11,7 +11,8 @@ use Rattle.edb_model.specs.Running.{Info, Run, opening_call}
 use Rattle.edb_model.specs.Move.{Next, acts, begins, pure, next, is_move, moved, answered}
 use Rattle.edb_model.specs.Acts.{true_term, exit_reason, acted}
 use Rattle.edb_model.specs.Plain.{Plain, running_at, with_running, with_newborn, ended}
-use Rattle.edb_model.specs.Labels.{Label, move, act, signal, advance, start, load, skip, kill, expire, most_processes, moved_in, step, steps}
+use Rattle.edb_model.specs.Labels.{Label, move, act, signal, advance, start, load, skip, kill, expire, moved_in, step, steps}
+use Rattle.edb_model.specs.Procs.{most_processes}
 use Rattle.edb_event.specs.declared.call.Command.{Command}
 use Rattle.edb_event.specs.declared.entry.Entry.{Entry}
 use Rattle.edb_rules.specs.Erasure.{labels_of}

@@ -12,7 +12,7 @@ use Rattle.edb_lang.specs.declared.act.ActKind.TheVariants as kind
 use Rattle.edb_model.specs.Running.{Run}
 use Rattle.edb_model.specs.Move.{acts, next, is_move}
 use Rattle.edb_model.specs.Plain.{running_at}
-use Rattle.edb_model.specs.Labels.{most_processes}
+use Rattle.edb_model.specs.Procs.{most_processes}
 use Rattle.edb_event.specs.declared.entry.Entry.{Entry}
 use Rattle.edb_event.specs.declared.entry.Entry.TheVariants as entry
 use Rattle.edb_event.specs.declared.call.Call.{Call}

@@ -11,7 +11,8 @@ use Rattle.edb_model.specs.Running.{Run}
 use Rattle.edb_model.specs.Move.{Next, acts, begins, pure, next, is_move, redex}
 use Rattle.edb_model.specs.Acts.{displayed, exit_reason, acted}
 use Rattle.edb_model.specs.Plain.{Plain, opening, running_at, with_running, ended}
-use Rattle.edb_model.specs.Labels.{Label, move, act, signal, advance, start, load, skip, kill, expire, moved_in, most_processes, step, steps}
+use Rattle.edb_model.specs.Labels.{Label, move, act, signal, advance, start, load, skip, kill, expire, moved_in, step, steps}
+use Rattle.edb_model.specs.Procs.{most_processes}
 use Rattle.edb_event.specs.declared.entry.Entry.{Entry}
 use Rattle.edb_rules.specs.Erasure.{labels_of, erase}
 use Rattle.edb_rules.specs.Plans.{Plan}

@@ -12,7 +12,7 @@ use Rattle.edb_event.specs.declared.reply.Reply.{Reply}
 use Rattle.edb_event.specs.declared.reply.Reply.TheVariants as reply
 use Rattle.edb_event.specs.Ranges.{IsReply}
 use Rattle.edb_breaks.specs.Table.{row_at}
-use Rattle.edb_model.specs.Labels.{most_processes}
+use Rattle.edb_model.specs.Procs.{most_processes}
 use Rattle.edb_rules.specs.Plans.{Plan}
 use Rattle.edb_rules.specs.Facts.{Facts}
 use Rattle.edb_rules.specs.Replies.{first_case, refused, answer, reply_to, is_held, no_process, not_interpreted, not_attached, not_stopped, console_of}

@@ -12,7 +12,8 @@ use Rattle.edb_model.specs.Move.{Next, acts, begins, pure, next, is_move, answer
 use Rattle.edb_model.specs.Acts.{true_term, exit_reason, acted}
 use Rattle.edb_model.specs.declared.tables.NameRow.{NameRow}
 use Rattle.edb_model.specs.Plain.{Plain, running_at, with_running, with_newborn, ended}
-use Rattle.edb_model.specs.Labels.{Label, move, act, signal, advance, start, load, skip, kill, expire, moved_in, most_processes, step, steps}
+use Rattle.edb_model.specs.Labels.{Label, move, act, signal, advance, start, load, skip, kill, expire, moved_in, step, steps}
+use Rattle.edb_model.specs.Procs.{most_processes}
 
 -- a label that changes no version
 abbrev pub IsNoLoad : Label → Type 0

@@ -1,4 +1,4 @@
--- What is left of a journal without the debugger: labels of a plain run.
+-- What is left of a journal without the debugger, but for what it changes in a run: labels of a plain run.
 
 use Rattle.std.specs.Prelude.{ℕ, List, [], ◌∷◌, replicate}
 use Rattle.std.specs.List.{flat_map}
@@ -6,7 +6,7 @@ use Rattle.edb_model.specs.Labels.{Label, move, act, signal, advance, start, loa
 use Rattle.edb_event.specs.declared.entry.Entry.{Entry}
 use Rattle.edb_event.specs.declared.entry.Entry.TheVariants as entry
 
--- the steps that an entry stands for: the debugger's own entries stand for none
+-- the steps that an entry stands for: the debugger's entries stand for none, but for those of `skip`, `kill` and `timeout`
 abbrev pub labels_of : Entry → List Label
 labels_of (entry.Start c p m f args) = start m f args ∷ []
 labels_of (entry.Load c m v) = load m v ∷ []
@@ -19,6 +19,6 @@ labels_of (entry.Signal p r) = signal ∷ []
 labels_of (entry.Advance t) = advance t ∷ []
 labels_of _ = []
 
--- a journal struck of the debugger's entries
+-- the steps of a journal, in order
 abbrev pub erase : List Entry → List Label
 erase journal = flat_map labels_of journal

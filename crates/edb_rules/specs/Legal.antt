@@ -12,7 +12,8 @@ use Rattle.edb_model.specs.Running.{Run}
 use Rattle.edb_model.specs.Move.{acts, next, is_move, redex}
 use Rattle.edb_model.specs.Acts.{exit_reason, displayed, true_term}
 use Rattle.edb_model.specs.Plain.{Plain, running_at}
-use Rattle.edb_model.specs.Labels.{steps, most_processes}
+use Rattle.edb_model.specs.Labels.{steps}
+use Rattle.edb_model.specs.Procs.{most_processes}
 use Rattle.edb_event.specs.declared.call.Call.{Call}
 use Rattle.edb_event.specs.declared.call.Call.TheVariants as command
 use Rattle.edb_event.specs.declared.reply.Reply.{Reply}

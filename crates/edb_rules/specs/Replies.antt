@@ -10,7 +10,7 @@ use Rattle.edb_breaks.specs.Table.{row_at, with_row}
 use Rattle.edb_model.specs.declared.tables.NameRow.{NameRow}
 use Rattle.edb_model.specs.Running.{Info, Run}
 use Rattle.edb_model.specs.Plain.{running_at}
-use Rattle.edb_model.specs.Labels.{most_processes}
+use Rattle.edb_model.specs.Procs.{most_processes}
 use Rattle.edb_event.specs.declared.call.Call.{Call}
 use Rattle.edb_event.specs.declared.call.Call.TheVariants as call
 use Rattle.edb_event.specs.declared.call.Word.{Word}

@@ -9,7 +9,7 @@ use Rattle.std.proofs.lemmas.Option.{slice_get_within, none-some, same_Some}
 use Rattle.edb_lang.specs.Terms.{Datum, elements}
 use Rattle.edb_model.specs.Running.{opening_call}
 use Rattle.edb_model.specs.Plain as model
-use Rattle.edb_model.specs.Labels.{most_processes}
+use Rattle.edb_model.specs.Procs.{most_processes}
 use Rattle.edb_event.specs.declared.call.Command.{Command}
 use Rattle.edb_event.specs.declared.call.Call.{Call}
 use Rattle.edb_event.specs.declared.call.Call.TheVariants as call

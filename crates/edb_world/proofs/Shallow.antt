@@ -13,7 +13,8 @@ use Rattle.edb_model.specs.Move.{Next, acts, begins, pure, next, is_move, moved,
 use Rattle.edb_model.specs.Acts.{true_term, exit_reason, acted}
 use Rattle.edb_model.specs.Plain.{Plain}
 use Rattle.edb_model.specs.Plain as model
-use Rattle.edb_model.specs.Labels.{Label, move, act, signal, advance, start, load, skip, kill, expire, most_processes, moved_in, step, steps}
+use Rattle.edb_model.specs.Labels.{Label, move, act, signal, advance, start, load, skip, kill, expire, moved_in, step, steps}
+use Rattle.edb_model.specs.Procs.{most_processes}
 use Rattle.edb_eval.specs.Levels.{highest}
 use Rattle.edb_eval.proofs.LevelLaws.{highest-opening, highest-moved, highest-answered}
 use Rattle.edb_event.specs.declared.entry.Entry.{Entry}

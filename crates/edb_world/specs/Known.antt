@@ -3,7 +3,7 @@
 use Rattle.std.specs.Prelude.{ℕ, ◌+◌, ◌-◌, min, if◌then◌else◌, nat_lt, List, length, Option}
 use Rattle.edb_model.specs.Running.{Run}
 use Rattle.edb_model.specs.Plain as model
-use Rattle.edb_model.specs.Labels.{most_processes}
+use Rattle.edb_model.specs.Procs.{most_processes}
 use Rattle.edb_event.specs.declared.call.Call.{Call}
 use Rattle.edb_event.specs.declared.call.Call.TheVariants as call
 use Rattle.edb_event.specs.declared.entry.Entry.{Entry}

@@ -1,0 +1,10 @@
+pub mod Chains
+pub mod Texts
+pub mod Told
+pub mod NumberLaws
+pub mod HexLaws
+pub mod AtomLaws
+pub mod TermFits
+pub mod TermLaws
+pub mod Follows
+pub mod FieldLaws

@@ -1,0 +1,10 @@
+pub mod Answers
+pub mod Atoms
+pub mod Chain
+pub mod Fronts
+pub mod Hexadecimal
+pub mod Literals
+pub mod Numerals
+pub mod Reading
+pub mod Separators
+pub mod TermReading

@@ -1,0 +1,5 @@
+pub mod Accepted
+pub mod Lines
+pub mod Replies
+pub mod Texts
+pub mod Wide
