@@ -23,9 +23,9 @@ use Rattle.edb_model.specs.Move.{Place, Handler, Redex, look, apply, bind, begin
 use Rattle.edb_event.specs.Ranges.{IsShort}
 use Rattle.edb_rules.specs.Slices.{after_moves}
 use Rattle.edb_model.specs.Innermost.{or_else, innermost, innermost_of}
-use Rattle.edb_rules.specs.Notes.{place_of}
+use Rattle.edb_rules.specs.SliceEnds.{place_of}
 use Rattle.edb_rules.specs.Bounds.{IsBoundedFunction, IsBounded, AreBounded}
-use Rattle.edb_rules.proofs.Ends.{when_some}
+use Rattle.edb_rules.proofs.Listed.{when_some}
 
 -- a Body's module and function have short names, and its arity is one that a journal can have
 abbrev pub IsBoundedBody : Info → Type 0

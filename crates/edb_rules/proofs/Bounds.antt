@@ -10,7 +10,7 @@ use Rattle.edb_lang.specs.declared.act.ActKind.TheVariants as kind
 use Rattle.edb_model.specs.Running.{Info, Run, opening_call}
 use Rattle.edb_model.specs.Move.{Next, acts, begins, pure, next, is_move, moved, answered}
 use Rattle.edb_model.specs.Acts.{true_term, exit_reason, acted}
-use Rattle.edb_model.specs.Plain.{Plain, running_at, with_running, with_newborn, ended}
+use Rattle.edb_model.specs.Plain.{Plain, running_at, with_running, ended}
 use Rattle.edb_model.specs.Labels.{Label, move, act, signal, advance, start, load, skip, kill, expire, moved_in, step, steps}
 use Rattle.edb_model.specs.Procs.{most_processes}
 use Rattle.edb_event.specs.declared.call.Command.{Command}
@@ -25,7 +25,7 @@ use Rattle.edb_rules.specs.Notes.{note, facts}
 use Rattle.edb_rules.specs.Legal.{May, Legal}
 use Rattle.edb_rules.specs.Bounds.{AreBounded}
 use Rattle.edb_rules.proofs.Entries.{kept_from}
-use Rattle.edb_rules.proofs.Known.{each_or}
+use Rattle.edb_rules.proofs.Listed.{each_or}
 use Rattle.edb_rules.proofs.Kept.{note_is}
 use Rattle.edb_rules.proofs.Bodies.{AllBodies, innermost_is, in_opening, moved_is, answered_is, moves_are}
 

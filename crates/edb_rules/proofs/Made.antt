@@ -1,43 +1,26 @@
 -- The server after a legal journal is what its entries made.
 
-use Rattle.std.proofs.Common.{◌≡◌, ℕ, zero, suc, Bool, true, false, ◌||◌, List, [], ◌∷◌, map, refl, sym, ap}
+use Rattle.std.proofs.Common.{◌≡◌, ◌⊎◌, inl, inr, ℕ, Bool, true, false, if◌then◌else◌, ◌||◌, List, [], ◌∷◌, map, Option, None, Some, refl, sym, ◌∙◌, ap}
 use Rattle.std.specs.List.{list_any}
 use Rattle.std.proofs.lemmas.Bool.{both_ways}
 use Rattle.edb_lang.specs.declared.small.Action.{Action}
 use Rattle.edb_lang.specs.declared.small.Action.TheVariants as action
 use Rattle.edb_lang.specs.declared.small.BreakRow.{BreakRow}
 use Rattle.edb_breaks.specs.Table.{Table, is_row, has_row, enabled_row, with_enabled}
-use Rattle.edb_lang.specs.declared.act.ActKind.{ActKind}
-use Rattle.edb_lang.specs.declared.act.ActKind.TheVariants as kind
 use Rattle.edb_event.specs.declared.call.Call.{Call}
-use Rattle.edb_event.specs.declared.call.Call.TheVariants as call
+use Rattle.edb_event.specs.declared.call.Call.TheVariants as command
+use Rattle.edb_event.specs.declared.reply.Refusal.{Refusal}
 use Rattle.edb_event.specs.declared.reply.Reply.{Reply}
 use Rattle.edb_event.specs.declared.reply.Reply.TheVariants as reply
 use Rattle.edb_event.specs.declared.entry.Entry.{Entry}
 use Rattle.edb_event.specs.declared.entry.Entry.TheVariants as entry
 use Rattle.edb_rules.specs.Plans.{Plan}
-use Rattle.edb_rules.specs.Facts.{Server, Debugged, Facts, at_first, with_debugged}
-use Rattle.edb_rules.specs.Replies.{served, after_reply}
-use Rattle.edb_rules.specs.Notes.{triggered, note, facts}
-use Rattle.edb_rules.specs.Legal.{May, Legal}
-use Rattle.edb_rules.specs.Made.{table_with, table_of, modules_with, modules_of, consoles_with, consoles_of}
+use Rattle.edb_rules.specs.Facts.{Server, Facts, at_first}
+use Rattle.edb_rules.specs.Replies.{server_by, is_accepted, refused, reply_to, answer}
+use Rattle.edb_rules.specs.Notes.{triggered, server_with, note, facts}
+use Rattle.edb_rules.specs.Legal.{IsAnswer, May, Legal}
+use Rattle.edb_rules.specs.Made.{table_with, table_of, modules_with, modules_of, attached_with, attached_of}
 use Rattle.edb_rules.proofs.Between.{folded}
-use Rattle.edb_rules.proofs.Halted.{is_short_reply, short_answer}
-
--- what is known of processes is none of the server's
-pub with_server : (f : Facts) (p : ℕ) (d : Debugged) → (with_debugged f p d).server ≡ f.server
-with_server f zero d = refl
-with_server f (suc n) d = refl
-
-pub did_server : (plan : Plan) (f : Facts) (p : ℕ) (k : ActKind) (v bytes : List ℕ) → (note plan f (entry.Did p k v bytes)).server ≡ f.server
-did_server plan f p kind.End v bytes = with_server f p _
-did_server plan f p _ v bytes = refl
-
--- a reply leaves what its command leaves
-pub reply_part : {A : Type 0} (h : Facts → A) (f : Facts) (c : ℕ) (x : Call) (r : Reply) → h (served f c x) ≡ h f → h (after_reply f c x r) ≡ h f
-reply_part h f c x (reply.Refused r) same = refl
-reply_part h f c x reply.Quiet same = refl
-reply_part h f c x _ same = same
 
 -- a row of another serial or place stays as it is
 other_row : (serial : ℕ) (m : List ℕ) (l : ℕ) (r : BreakRow) (rs : List BreakRow) (t : Bool) → is_row serial m l r ≡ t → (t || list_any (is_row serial m l) rs) ≡ false
@@ -61,108 +44,67 @@ trigger_made p m l serial action.Enable true t is = refl
 trigger_made p m l serial action.Enable false t is = unapplied serial m l t (sym is)
 trigger_made p m l serial _ applied t is = refl
 
-ib_made : (f : Facts) (c : ℕ) (m : List ℕ) (l : ℕ) (r : Reply) → is_short_reply r ≡ true
-    → (after_reply f c (call.Ib m l) r).server.table ≡ table_with f.server.table (entry.Served c (call.Ib m l) r)
-ib_made f c m l reply.Ok short = refl
-ib_made f c m l (reply.Refused r) short = refl
-ib_made f c m l reply.Quiet short = refl
-ib_made f c m l (reply.Status s t) short = absurd (both_ways false refl short)
-ib_made f c m l (reply.Rows rs) short = absurd (both_ways false refl short)
+-- A command whose answer is `ok` is refused, answered `quiet`, or answered `ok`.
+abbrev IsShort : Reply → Type 0
+IsShort r = (is_accepted r ≡ false) ⊎ (r ≡ reply.Ok)
 
-reply_table : (plan : Plan) (f : Facts) (c : ℕ) (x : Call) (r : Reply) → May plan f (entry.Served c x r)
-    → (after_reply f c x r).server.table ≡ table_with f.server.table (entry.Served c x r)
-reply_table plan f c (call.Ib m l) r may = ib_made f c m l r (short_answer plan f c (call.Ib m l) r refl may.rule.answer)
-reply_table plan f c (call.Continue p) r may = reply_part (λ g. g.server.table) f c (call.Continue p) r (ap (λ (s : Server). s.table) (with_server f p _))
-reply_table plan f c x r may = reply_part (λ g. g.server.table) f c x r refl
+short_reply : (plan : Plan) (f : Facts) (c : ℕ) (x : Call) (r : Reply) → answer f x ≡ reply.Ok → (o : Option Refusal) → refused plan f c x ≡ o → r ≡ reply_to plan f c x → IsShort r
+short_reply plan f c x r ok None is same = inr (let here : reply_to plan f c x ≡ answer f x = rw is refl in same ∙ (here ∙ ok))
+short_reply plan f c x r ok (Some why) is same = inl (let here : reply_to plan f c x ≡ reply.Refused why = rw is refl in ap is_accepted (same ∙ here))
 
-ii_made : (f : Facts) (c : ℕ) (m : List ℕ) (r : Reply) → is_short_reply r ≡ true
-    → (after_reply f c (call.Ii m) r).server.interpreted ≡ modules_with f.server.interpreted (entry.Served c (call.Ii m) r)
-ii_made f c m reply.Ok short = refl
-ii_made f c m (reply.Refused r) short = refl
-ii_made f c m reply.Quiet short = refl
-ii_made f c m (reply.Status s t) short = absurd (both_ways false refl short)
-ii_made f c m (reply.Rows rs) short = absurd (both_ways false refl short)
+short : (plan : Plan) (f : Facts) (c : ℕ) (x : Call) (r : Reply) → answer f x ≡ reply.Ok → IsAnswer plan f c x r → IsShort r
+short plan f c x r ok (inl a) = short_reply plan f c x r ok (refused plan f c x) refl a.same
+short plan f c x r ok (inr q) = inl (ap is_accepted q.same)
 
-reply_modules : (plan : Plan) (f : Facts) (c : ℕ) (x : Call) (r : Reply) → May plan f (entry.Served c x r)
-    → (after_reply f c x r).server.interpreted ≡ modules_with f.server.interpreted (entry.Served c x r)
-reply_modules plan f c (call.Ii m) r may = ii_made f c m r (short_answer plan f c (call.Ii m) r refl may.rule.answer)
-reply_modules plan f c (call.Continue p) r may = reply_part (λ g. g.server.interpreted) f c (call.Continue p) r (ap (λ (s : Server). s.interpreted) (with_server f p _))
-reply_modules plan f c x r may = reply_part (λ g. g.server.interpreted) f c x r refl
+-- what an accepted command leaves as it was
+kept_if : {A : Type 0} (h : Server → A) (b : Bool) (s t : Server) → h s ≡ h t → h (if b then s else t) ≡ h t
+kept_if h true s t same = same
+kept_if h false s t same = refl
 
-ia_made : (f : Facts) (c p : ℕ) (r : Reply) → is_short_reply r ≡ true
-    → (after_reply f c (call.Ia p) r).server.attached ≡ consoles_with f.server.attached (entry.Served c (call.Ia p) r)
-ia_made f c p reply.Ok short = refl
-ia_made f c p (reply.Refused r) short = refl
-ia_made f c p reply.Quiet short = refl
-ia_made f c p (reply.Status s t) short = absurd (both_ways false refl short)
-ia_made f c p (reply.Rows rs) short = absurd (both_ways false refl short)
+not_short : {A : Type 0} (r : Reply) → is_accepted r ≡ true → (r ≡ reply.Ok → ⊥) → IsShort r → A
+not_short r accepted other (inl refuses) = absurd (both_ways (is_accepted r) refuses accepted)
+not_short r accepted other (inr is) = absurd (other is)
 
-reply_consoles : (plan : Plan) (f : Facts) (c : ℕ) (x : Call) (r : Reply) → May plan f (entry.Served c x r)
-    → (after_reply f c x r).server.attached ≡ consoles_with f.server.attached (entry.Served c x r)
-reply_consoles plan f c (call.Ia p) r may = ia_made f c p r (short_answer plan f c (call.Ia p) r refl may.rule.answer)
-reply_consoles plan f c (call.Continue p) r may = reply_part (λ g. g.server.attached) f c (call.Continue p) r (ap (λ (s : Server). s.attached) (with_server f p _))
-reply_consoles plan f c x r may = reply_part (λ g. g.server.attached) f c x r refl
+ib_made : (s : Server) (c : ℕ) (m : List ℕ) (l : ℕ) (r : Reply) → IsShort r
+    → (server_with s (entry.Served c (command.Ib m l) r)).table ≡ table_with s.table (entry.Served c (command.Ib m l) r)
+ib_made s c m l reply.Ok is = refl
+ib_made s c m l (reply.Refused why) is = refl
+ib_made s c m l reply.Quiet is = refl
+ib_made s c m l (reply.Status p t) is = not_short (reply.Status p t) refl (λ e. cc) is
+ib_made s c m l (reply.Rows rs) is = not_short (reply.Rows rs) refl (λ e. cc) is
+
+ii_made : (s : Server) (c : ℕ) (m : List ℕ) (r : Reply) → IsShort r
+    → (server_with s (entry.Served c (command.Ii m) r)).interpreted ≡ modules_with s.interpreted (entry.Served c (command.Ii m) r)
+ii_made s c m reply.Ok is = refl
+ii_made s c m (reply.Refused why) is = refl
+ii_made s c m reply.Quiet is = refl
+ii_made s c m (reply.Status p t) is = not_short (reply.Status p t) refl (λ e. cc) is
+ii_made s c m (reply.Rows rs) is = not_short (reply.Rows rs) refl (λ e. cc) is
+
+ia_made : (s : Server) (c p : ℕ) (r : Reply) → IsShort r
+    → (server_with s (entry.Served c (command.Ia p) r)).attached ≡ attached_with s.attached (entry.Served c (command.Ia p) r)
+ia_made s c p reply.Ok is = refl
+ia_made s c p (reply.Refused why) is = refl
+ia_made s c p reply.Quiet is = refl
+ia_made s c p (reply.Status q t) is = not_short (reply.Status q t) refl (λ e. cc) is
+ia_made s c p (reply.Rows rs) is = not_short (reply.Rows rs) refl (λ e. cc) is
 
 -- what each entry makes
 table_step : (plan : Plan) (f : Facts) (e : Entry) → Unit {0} → May plan f e → (note plan f e).server.table ≡ table_with f.server.table e
-table_step plan f (entry.Start c p m n args) kept may = refl
-table_step plan f (entry.Load c m v) kept may = absurd may.rule
-table_step plan f (entry.Skip con who) kept may = absurd may.rule
-table_step plan f (entry.Kill con who) kept may = absurd may.rule
-table_step plan f (entry.Expire con who) kept may = absurd may.rule
-table_step plan f (entry.Lease p b) kept may = ap (λ (s : Server). s.table) (with_server f p _)
-table_step plan f (entry.Ran p n c) kept may = ap (λ (s : Server). s.table) (with_server f p _)
-table_step plan f (entry.Ask p k) kept may = absurd may.rule
-table_step plan f (entry.Did p k v bytes) kept may = ap (λ (s : Server). s.table) (did_server plan f p k v bytes)
-table_step plan f (entry.Took p) kept may = absurd may.rule
-table_step plan f (entry.Forward p) kept may = absurd may.rule
-table_step plan f (entry.Leave p) kept may = ap (λ (s : Server). s.table) (with_server f p _)
-table_step plan f (entry.Enter p m n a) kept may = ap (λ (s : Server). s.table) (with_server f p _)
-table_step plan f (entry.Signal p r) kept may = absurd may.rule
-table_step plan f (entry.Advance t) kept may = absurd may.rule
-table_step plan f (entry.Stop p m l n by) kept may = ap (λ (s : Server). s.table) (with_server f p _)
 table_step plan f (entry.Trigger p m l s a applied) kept may = trigger_made p m l s a applied f.server.table may.rule.done
-table_step plan f (entry.Served c x r) kept may = reply_table plan f c x r may
+table_step plan f (entry.Served c (command.Ib m l) r) kept may = ib_made f.server c m l r (short plan f c (command.Ib m l) r refl may.rule.answer)
+table_step plan f (entry.Served c x r) kept may = kept_if (λ (s : Server). s.table) (is_accepted r) _ f.server refl
+table_step plan f _ kept may = refl
 
 modules_step : (plan : Plan) (f : Facts) (e : Entry) → Unit {0} → May plan f e → (note plan f e).server.interpreted ≡ modules_with f.server.interpreted e
-modules_step plan f (entry.Start c p m n args) kept may = refl
-modules_step plan f (entry.Load c m v) kept may = absurd may.rule
-modules_step plan f (entry.Skip con who) kept may = absurd may.rule
-modules_step plan f (entry.Kill con who) kept may = absurd may.rule
-modules_step plan f (entry.Expire con who) kept may = absurd may.rule
-modules_step plan f (entry.Lease p b) kept may = ap (λ (s : Server). s.interpreted) (with_server f p _)
-modules_step plan f (entry.Ran p n c) kept may = ap (λ (s : Server). s.interpreted) (with_server f p _)
-modules_step plan f (entry.Ask p k) kept may = absurd may.rule
-modules_step plan f (entry.Did p k v bytes) kept may = ap (λ (s : Server). s.interpreted) (did_server plan f p k v bytes)
-modules_step plan f (entry.Took p) kept may = absurd may.rule
-modules_step plan f (entry.Forward p) kept may = absurd may.rule
-modules_step plan f (entry.Leave p) kept may = ap (λ (s : Server). s.interpreted) (with_server f p _)
-modules_step plan f (entry.Enter p m n a) kept may = ap (λ (s : Server). s.interpreted) (with_server f p _)
-modules_step plan f (entry.Signal p r) kept may = absurd may.rule
-modules_step plan f (entry.Advance t) kept may = absurd may.rule
-modules_step plan f (entry.Stop p m l n by) kept may = ap (λ (s : Server). s.interpreted) (with_server f p _)
-modules_step plan f (entry.Trigger p m l s a applied) kept may = refl
-modules_step plan f (entry.Served c x r) kept may = reply_modules plan f c x r may
+modules_step plan f (entry.Served c (command.Ii m) r) kept may = ii_made f.server c m r (short plan f c (command.Ii m) r refl may.rule.answer)
+modules_step plan f (entry.Served c x r) kept may = kept_if (λ (s : Server). s.interpreted) (is_accepted r) _ f.server refl
+modules_step plan f _ kept may = refl
 
-consoles_step : (plan : Plan) (f : Facts) (e : Entry) → Unit {0} → May plan f e → (note plan f e).server.attached ≡ consoles_with f.server.attached e
-consoles_step plan f (entry.Start c p m n args) kept may = refl
-consoles_step plan f (entry.Load c m v) kept may = absurd may.rule
-consoles_step plan f (entry.Skip con who) kept may = absurd may.rule
-consoles_step plan f (entry.Kill con who) kept may = absurd may.rule
-consoles_step plan f (entry.Expire con who) kept may = absurd may.rule
-consoles_step plan f (entry.Lease p b) kept may = ap (λ (s : Server). s.attached) (with_server f p _)
-consoles_step plan f (entry.Ran p n c) kept may = ap (λ (s : Server). s.attached) (with_server f p _)
-consoles_step plan f (entry.Ask p k) kept may = absurd may.rule
-consoles_step plan f (entry.Did p k v bytes) kept may = ap (λ (s : Server). s.attached) (did_server plan f p k v bytes)
-consoles_step plan f (entry.Took p) kept may = absurd may.rule
-consoles_step plan f (entry.Forward p) kept may = absurd may.rule
-consoles_step plan f (entry.Leave p) kept may = ap (λ (s : Server). s.attached) (with_server f p _)
-consoles_step plan f (entry.Enter p m n a) kept may = ap (λ (s : Server). s.attached) (with_server f p _)
-consoles_step plan f (entry.Signal p r) kept may = absurd may.rule
-consoles_step plan f (entry.Advance t) kept may = absurd may.rule
-consoles_step plan f (entry.Stop p m l n by) kept may = ap (λ (s : Server). s.attached) (with_server f p _)
-consoles_step plan f (entry.Trigger p m l s a applied) kept may = refl
-consoles_step plan f (entry.Served c x r) kept may = reply_consoles plan f c x r may
+attached_step : (plan : Plan) (f : Facts) (e : Entry) → Unit {0} → May plan f e → (note plan f e).server.attached ≡ attached_with f.server.attached e
+attached_step plan f (entry.Served c (command.Ia p) r) kept may = ia_made f.server c p r (short plan f c (command.Ia p) r refl may.rule.answer)
+attached_step plan f (entry.Served c x r) kept may = kept_if (λ (s : Server). s.attached) (is_accepted r) _ f.server refl
+attached_step plan f _ kept may = refl
 
 pub table_is : (plan : Plan) (journal : List Entry) → Legal plan journal → (facts plan journal).server.table ≡ table_of journal
 table_is plan journal legal =
@@ -172,6 +114,20 @@ pub modules_are : (plan : Plan) (journal : List Entry) → Legal plan journal �
 modules_are plan journal legal =
     folded plan (λ f. f.server.interpreted) modules_with (λ f. Unit {0}) (λ f e kept may. tt) (modules_step plan) (at_first plan) journal tt legal
 
-pub consoles_are : (plan : Plan) (journal : List Entry) → Legal plan journal → (facts plan journal).server.attached ≡ consoles_of journal
-consoles_are plan journal legal =
-    folded plan (λ f. f.server.attached) consoles_with (λ f. Unit {0}) (λ f e kept may. tt) (consoles_step plan) (at_first plan) journal tt legal
+pub attached_are : (plan : Plan) (journal : List Entry) → Legal plan journal → (facts plan journal).server.attached ≡ attached_of journal
+attached_are plan journal legal =
+    folded plan (λ f. f.server.attached) attached_with (λ f. Unit {0}) (λ f e kept may. tt) (attached_step plan) (at_first plan) journal tt legal
+
+-- no command sets a flag yet
+flags_by : (c : ℕ) (x : Call) (s : Server) → (server_by c x s).flags ≡ s.flags
+flags_by c (command.Ii m) s = refl
+flags_by c (command.Ib m l) s = refl
+flags_by c (command.Ia p) s = refl
+flags_by c _ s = refl
+
+flags_step : (plan : Plan) (f : Facts) (e : Entry) → f.server.flags ≡ [] → May plan f e → (note plan f e).server.flags ≡ []
+flags_step plan f (entry.Served c x r) none may = kept_if (λ (s : Server). s.flags) (is_accepted r) (server_by c x f.server) f.server (flags_by c x f.server) ∙ none
+flags_step plan f _ none may = none
+
+pub no_flags : (plan : Plan) (f : Facts) (e : Entry) → f.server.flags ≡ [] → May plan f e → (note plan f e).server.flags ≡ []
+no_flags = flags_step

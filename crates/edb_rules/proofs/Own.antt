@@ -1,108 +1,100 @@
--- The console's own processes after a legal journal are told by the journal's entries.
+-- A console's own processes after a legal journal are told by the journal's entries.
 
-use Rattle.std.proofs.Common.{◌≡◌, ◌⊎◌, inl, inr, ℕ, zero, suc, List, refl}
-use Rattle.std.proofs.lemmas.Bool.{eq-eqb}
-use Rattle.edb_lang.specs.declared.act.ActKind.{ActKind}
-use Rattle.edb_lang.specs.declared.act.ActKind.TheVariants as kind
+use Rattle.std.proofs.Common.{◌≡◌, ℕ, zero, suc, Bool, true, false, if◌then◌else◌, nat_eq, List, [], ◌∷◌, ◌++◌, Option, None, Some, length, replicate, slice_index_or, refl, sym, ◌∙◌, ap, subst}
+use Rattle.std.specs.List.{fold}
+use Rattle.std.proofs.lemmas.Bool.{eqb-true}
+use Rattle.std.proofs.lemmas.Option.{none-some, same_Some}
+use Rattle.edb_model.specs.Procs.{numbered}
 use Rattle.edb_event.specs.declared.call.Call.{Call}
-use Rattle.edb_event.specs.declared.call.Call.TheVariants as call
-use Rattle.edb_event.specs.declared.call.ProcStatus.{ProcStatus}
-use Rattle.edb_event.specs.declared.reply.Reply.{Reply}
 use Rattle.edb_event.specs.declared.reply.Reply.TheVariants as reply
 use Rattle.edb_event.specs.declared.entry.Entry.{Entry}
 use Rattle.edb_event.specs.declared.entry.Entry.TheVariants as entry
 use Rattle.edb_rules.specs.Plans.{Plan}
-use Rattle.edb_rules.specs.Facts.{Debugged, Facts, at_first, with_debugged}
-use Rattle.edb_rules.specs.Replies.{after_reply}
-use Rattle.edb_rules.specs.Notes.{note, facts}
-use Rattle.edb_rules.specs.Legal.{IsAnswer, May, Legal}
+use Rattle.edb_rules.specs.Facts.{Console, Facts, at_first, new_console, console_at}
+use Rattle.edb_rules.specs.Consoles.{command_of, console_with, consoles_by}
+use Rattle.edb_rules.specs.Notes.{facts}
+use Rattle.edb_rules.specs.Legal.{May, Legal}
 use Rattle.edb_rules.specs.Own.{starts_with, starts_of, last_with, last_of}
 use Rattle.edb_rules.proofs.Between.{folded}
-use Rattle.edb_rules.proofs.Made.{reply_part}
+use Rattle.edb_rules.proofs.Commanded.{IsEight, eight_step, next_command, console_within}
+use Rattle.edb_rules.proofs.Present.{with_exact}
 
--- what is known of processes is none of the console's
-with_own : (f : Facts) (p : ℕ) (d : Debugged) → (with_debugged f p d).own ≡ f.own
-with_own f zero d = refl
-with_own f (suc n) d = refl
+-- A part of console c is what a fold over the entries makes, if the fold does at each entry what the entry does to its
+-- console.
+module _ {A : Type 0} (c : ℕ) (h : Console → A) (step : A → Entry → A)
+    (its : (e : Entry) (x : ℕ × Call) (k : Console) → command_of e ≡ Some x → (if nat_eq x.0 c then h (console_with e k) else h k) ≡ step (h k) e)
+    (none : (e : Entry) (a : A) → command_of e ≡ None → a ≡ step a e) where
+  part_if : (b : Bool) (x y : Console) → h (if b then x else y) ≡ (if b then h x else h y)
+  part_if true x y = refl
+  part_if false x y = refl
 
-with_last : (f : Facts) (p : ℕ) (d : Debugged) → (with_debugged f p d).last ≡ f.last
-with_last f zero d = refl
-with_last f (suc n) d = refl
+  at_its : (b : Bool) (e : Entry) (j k : Console) → (b ≡ true → j ≡ k) → (if b then h (console_with e j) else h k) ≡ (if b then h (console_with e k) else h k)
+  at_its true e j k same = ap (λ (x : Console). h (console_with e x)) (same refl)
+  at_its false e j k same = refl
 
-did_own : (plan : Plan) (f : Facts) (p : ℕ) (k : ActKind) (v bytes : List ℕ) → (note plan f (entry.Did p k v bytes)).own ≡ f.own
-did_own plan f p kind.End v bytes = with_own f p _
-did_own plan f p _ v bytes = refl
+  told_by : (plan : Plan) (f : Facts) (e : Entry) (o : Option (ℕ × Call)) → command_of e ≡ o → IsEight f → May plan f e
+      → h (numbered new_console (consoles_by f.consoles e o) c) ≡ step (h (console_at f c)) e
+  told_by plan f e None is here may = none e (h (console_at f c)) is
+  told_by plan f e (Some x) is here may =
+      let within = console_within (length f.consoles) x.0 here.eight (next_command plan f e x.0 x.1 may is).console in
+      ap h (with_exact new_console f.consoles x.0 (console_with e (numbered new_console f.consoles x.0)) c within)
+      ∙ (part_if (nat_eq x.0 c) _ _
+      ∙ (at_its (nat_eq x.0 c) e (numbered new_console f.consoles x.0) (console_at f c) (λ same. ap (numbered new_console f.consoles) (eqb-true x.0 c same))
+      ∙ its e x (console_at f c) is))
 
-did_last : (plan : Plan) (f : Facts) (p : ℕ) (k : ActKind) (v bytes : List ℕ) → (note plan f (entry.Did p k v bytes)).last ≡ f.last
-did_last plan f p kind.End v bytes = with_last f p _
-did_last plan f p _ v bytes = refl
+  pub told : (plan : Plan) (journal : List Entry) → Legal plan journal → h (console_at (facts plan journal) c) ≡ fold step (h (console_at (at_first plan) c)) journal
+  told plan journal legal =
+      folded plan (λ f. h (console_at f c)) step IsEight (eight_step plan) (λ f e here may. told_by plan f e (command_of e) refl here may) (at_first plan) journal (record { eight = refl }) legal
 
-reply_own : (f : Facts) (c : ℕ) (x : Call) (r : Reply) → (after_reply f c x r).own ≡ f.own
-reply_own f c (call.Continue p) r = reply_part (λ g. g.own) f c (call.Continue p) r (with_own f p _)
-reply_own f c x r = reply_part (λ g. g.own) f c x r refl
+first_console : (plan : Plan) (c : ℕ) → console_at (at_first plan) c ≡ new_console
+first_console plan c = replicated 8 c
+  where
+    at : (n m : ℕ) → slice_index_or (replicate n new_console) m new_console ≡ new_console
+    at zero m = refl
+    at (suc n) zero = refl
+    at (suc n) (suc m) = at n m
 
--- an await is answered by its status, or `quiet`
-awaited : (plan : Plan) (f : Facts) (c p : ℕ) (s : ProcStatus) (r : Reply) → IsAnswer plan f c (call.Await p s) r
-    → (r ≡ reply.Status p s) ⊎ (r ≡ reply.Quiet)
-awaited plan f c p s r (inl a) = inl a.1
-awaited plan f c p s r (inr a) = inr a.1
+    replicated : (n c : ℕ) → numbered new_console (replicate n new_console) c ≡ new_console
+    replicated n zero = refl
+    replicated n (suc m) = at n m
 
-await_last : (f : Facts) (c p : ℕ) (s : ProcStatus) (r : Reply) → (r ≡ reply.Status p s) ⊎ (r ≡ reply.Quiet)
-    → (after_reply f c (call.Await p s) r).last ≡ last_with f.last (entry.Served c (call.Await p s) r)
-await_last f c p s r (inl is) = rw is refl
-await_last f c p s r (inr is) = rw is refl
+same_both : {A : Type 0} (b : Bool) (x : A) → (if b then x else x) ≡ x
+same_both true x = refl
+same_both false x = refl
 
-reply_last : (plan : Plan) (f : Facts) (c : ℕ) (x : Call) (r : Reply) → May plan f (entry.Served c x r)
-    → (after_reply f c x r).last ≡ last_with f.last (entry.Served c x r)
-reply_last plan f c (call.Await p s) r may = await_last f c p s r (awaited plan f c p s r may.rule.answer)
-reply_last plan f c (call.Continue p) r may = reply_part (λ g. g.last) f c (call.Continue p) r (with_last f p _)
-reply_last plan f c x r may = reply_part (λ g. g.last) f c x r refl
+-- its own starts
+own_its : (c : ℕ) (e : Entry) (x : ℕ × Call) (k : Console) → command_of e ≡ Some x → (if nat_eq x.0 c then (console_with e k).own else k.own) ≡ starts_with c k.own e
+own_its c (entry.Start d p m n args) x k is = subst (λ (y : ℕ × Call). (if nat_eq y.0 c then k.own ++ p ∷ [] else k.own) ≡ starts_with c k.own (entry.Start d p m n args)) (same_Some _ x is) refl
+own_its c (entry.Served d y (reply.Status p s)) x k is = same_both (nat_eq x.0 c) k.own
+own_its c (entry.Served d y reply.Ok) x k is = same_both (nat_eq x.0 c) k.own
+own_its c (entry.Served d y (reply.Refused r)) x k is = same_both (nat_eq x.0 c) k.own
+own_its c (entry.Served d y reply.Quiet) x k is = same_both (nat_eq x.0 c) k.own
+own_its c (entry.Served d y (reply.Rows rs)) x k is = same_both (nat_eq x.0 c) k.own
+own_its c _ x k is = same_both (nat_eq x.0 c) k.own
 
--- what each entry changes
-own_step : (plan : Plan) (f : Facts) (e : Entry) → Unit {0} → May plan f e → (note plan f e).own ≡ starts_with f.own e
-own_step plan f (entry.Start c p m n args) kept may = rw (eq-eqb c 1 may.rule.console) refl
-own_step plan f (entry.Load c m v) kept may = absurd may.rule
-own_step plan f (entry.Skip con who) kept may = absurd may.rule
-own_step plan f (entry.Kill con who) kept may = absurd may.rule
-own_step plan f (entry.Expire con who) kept may = absurd may.rule
-own_step plan f (entry.Lease p b) kept may = with_own f p _
-own_step plan f (entry.Ran p n c) kept may = with_own f p _
-own_step plan f (entry.Ask p k) kept may = absurd may.rule
-own_step plan f (entry.Did p k v bytes) kept may = did_own plan f p k v bytes
-own_step plan f (entry.Took p) kept may = absurd may.rule
-own_step plan f (entry.Forward p) kept may = absurd may.rule
-own_step plan f (entry.Leave p) kept may = with_own f p _
-own_step plan f (entry.Enter p m n a) kept may = with_own f p _
-own_step plan f (entry.Signal p r) kept may = absurd may.rule
-own_step plan f (entry.Advance t) kept may = absurd may.rule
-own_step plan f (entry.Stop p m l n by) kept may = with_own f p _
-own_step plan f (entry.Trigger p m l s a applied) kept may = refl
-own_step plan f (entry.Served c x r) kept may = reply_own f c x r
+own_none : (c : ℕ) (e : Entry) (ps : List ℕ) → command_of e ≡ None → ps ≡ starts_with c ps e
+own_none c (entry.Start d p m n args) ps is = absurd (none-some _ (sym is))
+own_none c _ ps is = refl
 
-last_step : (plan : Plan) (f : Facts) (e : Entry) → Unit {0} → May plan f e → (note plan f e).last ≡ last_with f.last e
-last_step plan f (entry.Start c p m n args) kept may = refl
-last_step plan f (entry.Load c m v) kept may = absurd may.rule
-last_step plan f (entry.Skip con who) kept may = absurd may.rule
-last_step plan f (entry.Kill con who) kept may = absurd may.rule
-last_step plan f (entry.Expire con who) kept may = absurd may.rule
-last_step plan f (entry.Lease p b) kept may = with_last f p _
-last_step plan f (entry.Ran p n c) kept may = with_last f p _
-last_step plan f (entry.Ask p k) kept may = absurd may.rule
-last_step plan f (entry.Did p k v bytes) kept may = did_last plan f p k v bytes
-last_step plan f (entry.Took p) kept may = absurd may.rule
-last_step plan f (entry.Forward p) kept may = absurd may.rule
-last_step plan f (entry.Leave p) kept may = with_last f p _
-last_step plan f (entry.Enter p m n a) kept may = with_last f p _
-last_step plan f (entry.Signal p r) kept may = absurd may.rule
-last_step plan f (entry.Advance t) kept may = absurd may.rule
-last_step plan f (entry.Stop p m l n by) kept may = with_last f p _
-last_step plan f (entry.Trigger p m l s a applied) kept may = refl
-last_step plan f (entry.Served c x r) kept may = reply_last plan f c x r may
+pub own_is : (plan : Plan) (journal : List Entry) (c : ℕ) → Legal plan journal → (console_at (facts plan journal) c).own ≡ starts_of c journal
+own_is plan journal c legal =
+    told c (λ (k : Console). k.own) (starts_with c) (own_its c) (own_none c) plan journal legal
+    ∙ ap (λ (k : Console). fold (starts_with c) k.own journal) (first_console plan c)
 
-pub own_is : (plan : Plan) (journal : List Entry) → Legal plan journal → (facts plan journal).own ≡ starts_of journal
-own_is plan journal legal =
-    folded plan (λ f. f.own) starts_with (λ f. Unit {0}) (λ f e kept may. tt) (own_step plan) (at_first plan) journal tt legal
+-- its last await
+last_its : (c : ℕ) (e : Entry) (x : ℕ × Call) (k : Console) → command_of e ≡ Some x → (if nat_eq x.0 c then (console_with e k).last else k.last) ≡ last_with c k.last e
+last_its c (entry.Served d y (reply.Status p s)) x k is = subst (λ (z : ℕ × Call). (if nat_eq z.0 c then p else k.last) ≡ last_with c k.last (entry.Served d y (reply.Status p s))) (same_Some _ x is) refl
+last_its c (entry.Served d y reply.Ok) x k is = same_both (nat_eq x.0 c) k.last
+last_its c (entry.Served d y (reply.Refused r)) x k is = same_both (nat_eq x.0 c) k.last
+last_its c (entry.Served d y reply.Quiet) x k is = same_both (nat_eq x.0 c) k.last
+last_its c (entry.Served d y (reply.Rows rs)) x k is = same_both (nat_eq x.0 c) k.last
+last_its c _ x k is = same_both (nat_eq x.0 c) k.last
 
-pub last_is : (plan : Plan) (journal : List Entry) → Legal plan journal → (facts plan journal).last ≡ last_of journal
-last_is plan journal legal =
-    folded plan (λ f. f.last) last_with (λ f. Unit {0}) (λ f e kept may. tt) (last_step plan) (at_first plan) journal tt legal
+last_none : (c : ℕ) (e : Entry) (q : ℕ) → command_of e ≡ None → q ≡ last_with c q e
+last_none c (entry.Served d y r) q is = absurd (none-some _ (sym is))
+last_none c _ q is = refl
+
+pub last_is : (plan : Plan) (journal : List Entry) (c : ℕ) → Legal plan journal → (console_at (facts plan journal) c).last ≡ last_of c journal
+last_is plan journal c legal =
+    told c (λ (k : Console). k.last) (last_with c) (last_its c) (last_none c) plan journal legal
+    ∙ ap (λ (k : Console). fold (last_with c) k.last journal) (first_console plan c)

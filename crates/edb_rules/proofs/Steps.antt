@@ -2,7 +2,7 @@
 
 use Rattle.std.specs.List.{filter}
 use Rattle.std.specs.Prelude.{not, ◌==◌}
-use Rattle.std.proofs.Common.{◌≡◌, ℕ, zero, suc, ◌+◌, List, [], ◌∷◌, ◌++◌, length, Option, None, Some, replicate, length-append, refl, ◌∙◌, ap, subst, nat_lt, arith}
+use Rattle.std.proofs.Common.{◌≡◌, ℕ, zero, suc, ◌+◌, List, [], ◌∷◌, length, Option, None, Some, replicate, length-append, refl, ◌∙◌, ap, subst, nat_lt, arith}
 use Rattle.std.proofs.lemmas.List.{length-set}
 use Rattle.std.proofs.lemmas.Option.{none-some, same_Some, cond_some, option_and_then_some}
 use Rattle.edb_lang.specs.Syntax.{ModuleTree}
@@ -11,7 +11,7 @@ use Rattle.edb_model.specs.Running.{Run}
 use Rattle.edb_model.specs.Move.{Next, acts, begins, pure, next, is_move, answered}
 use Rattle.edb_model.specs.Acts.{true_term, exit_reason, acted}
 use Rattle.edb_model.specs.declared.tables.NameRow.{NameRow}
-use Rattle.edb_model.specs.Plain.{Plain, running_at, with_running, with_newborn, ended}
+use Rattle.edb_model.specs.Plain.{Plain, with_running, with_newborn, ended}
 use Rattle.edb_model.specs.Labels.{Label, move, act, signal, advance, start, load, skip, kill, expire, moved_in, step, steps}
 use Rattle.edb_model.specs.Procs.{most_processes}
 

@@ -1,188 +1,127 @@
--- Each stop of a legal journal was due, and no move passes a beginning that is due.
+-- A Stop of a legal journal was due, and no move passes a beginning that is due; what is due is stopped at.
 
-use Rattle.std.proofs.Common.{◌≡◌, ℕ, zero, suc, Bool, true, false, if◌then◌else◌, List, [], ◌∷◌, Option, None, Some, take, refl, sym, ◌∙◌, ap, subst}
+use Rattle.std.proofs.Common.{◌≡◌, ◌⊎◌, inl, inr, ℕ, Bool, true, false, if◌then◌else◌, not, ◌&&◌, List, Option, None, Some, take, refl, sym, ◌∙◌, ap, subst}
 use Rattle.std.specs.List.{slice_get}
-use Rattle.std.proofs.lemmas.Bool.{and_parts, both_ways}
+use Rattle.std.proofs.lemmas.Bool.{both_ways}
 use Rattle.std.proofs.lemmas.Option.{none-some}
 use Rattle.edb_lang.specs.declared.small.Break.{Break}
-use Rattle.edb_lang.specs.declared.act.ActKind.{ActKind}
-use Rattle.edb_lang.specs.declared.act.ActKind.TheVariants as kind
+use Rattle.edb_lang.specs.Syntax.{ModuleTree}
 use Rattle.edb_model.specs.Running.{Run}
-use Rattle.edb_model.specs.Move.{Next, begins, next}
-use Rattle.edb_model.specs.Plain.{running_at}
+use Rattle.edb_model.specs.Move.{begins, next}
 use Rattle.edb_event.specs.declared.entry.Cause.{Cause}
 use Rattle.edb_event.specs.declared.entry.Entry.{Entry}
 use Rattle.edb_event.specs.declared.entry.Entry.TheVariants as entry
-use Rattle.edb_event.specs.declared.call.Call.{Call}
-use Rattle.edb_event.specs.declared.call.Call.TheVariants as call
-use Rattle.edb_event.specs.declared.reply.Reply.{Reply}
-use Rattle.edb_event.specs.declared.reply.Reply.TheVariants as reply
 use Rattle.edb_rules.specs.Plans.{Plan}
-use Rattle.edb_rules.specs.Facts.{Handout, Debugged, Facts, debugged_at, with_debugged, is_among}
-use Rattle.edb_rules.specs.Slices.{SliceEnd, leaves, act_next, enters, stops, spent, due, if_due, at_begin, at_next, end_at, after_moves}
-use Rattle.edb_rules.specs.Replies.{served, after_reply}
-use Rattle.edb_rules.specs.Notes.{place_of, end_entries, coming_after, behind, note, facts}
-use Rattle.edb_rules.specs.Legal.{MayRun, May, Legal}
-use Rattle.edb_rules.specs.Stops.{HasActive, WasDue, GoesOn, PassesNone}
-use Rattle.edb_rules.proofs.Entries.{may_at, kept_at}
-use Rattle.edb_rules.proofs.Known.{with_same}
-use Rattle.edb_rules.proofs.Ends.{when_some, EndMeans, slice_means}
+use Rattle.edb_rules.specs.Facts.{Handout, debuggee_at, is_among}
+use Rattle.edb_rules.specs.Slices.{after_moves, has_body, level_in, is_ordered, active_among, asked_to, Why, ordered, broken, due, SliceEnd, leaves, enters, stops, if_spent, if_due, at_next, end_at}
+use Rattle.edb_rules.specs.SliceEnds.{cause_of}
+use Rattle.edb_rules.specs.Notes.{facts}
+use Rattle.edb_rules.specs.Legal.{Legal}
+use Rattle.edb_rules.specs.Stops.{WasDue, StandsBefore, GoesOn, PassesNone}
+use Rattle.edb_rules.specs.Tells.{TellsLevel, TellsCall}
+use Rattle.edb_rules.proofs.Entries.{may_at}
+use Rattle.edb_rules.proofs.Endings.{stop_there, enter_there}
+use Rattle.edb_rules.proofs.Fresh.{DueMeans, due_means, point_means}
 
--- where a beginning is due, the table that was taken in has the active row, and the module is interpreted
-due_is : (h : Handout) (i : ℕ) (m : List ℕ) (l : ℕ) (b : Break) → due h i m l ≡ Some b → HasActive h m l b.serial
-due_is h i m l b e =
-    let both = when_some _ _ b e in
-    record { breakpoint = b; active = both.1; same = refl; interpreted = (and_parts _ _ both.0).0 }
+-- what a Stop tells of why it is
+was_due : (code : List ModuleTree) (h : Handout) (p i : ℕ) (t : Run) (m : List ℕ) (l : ℕ) (why : Why) → DueMeans code h p i t m l why → WasDue h m l (level_in t) (cause_of why)
+was_due code h p i t m l why d = by d.cause
+  where
+    inside : is_among m h.modules ≡ true
+    inside = (point_means h i m d.point).0
 
--- each Stop among these entries is due by what its process took in
-abbrev StopIsDue : Facts → Entry → Type 0
-StopIsDue f (entry.Stop p m l n by) = WasDue (debugged_at f p).taken m l by
-StopIsDue f _ = Unit {0}
-
-abbrev AreDue : Facts → List Entry → Type 0
-AreDue f [] = Unit {0}
-AreDue f (e ∷ es) = StopIsDue f e × AreDue f es
-
-ends_are_due : (f : Facts) (p : ℕ) (t : Run) (end : SliceEnd)
-    → EndMeans (λ b. HasActive (debugged_at f p).taken (place_of (next t)).0 (place_of (next t)).1 b.serial) (Some end) → AreDue f (end_entries p t end)
-ends_are_due f p t leaves d = (tt, tt)
-ends_are_due f p t act_next d = tt
-ends_are_due f p t (enters None) d = (tt, tt)
-ends_are_due f p t (enters (Some b)) d = (tt, (d, tt))
-ends_are_due f p t (stops b) d = (d, tt)
-ends_are_due f p t spent d = tt
-
--- what stands behind a slice is what its end says
-pub coming_is : (plan : Plan) (f : Facts) (p n : ℕ) (t : Run) (end : SliceEnd) → (running_at f.plain p) ≡ Some t
-    → end_at (debugged_at f p).taken (debugged_at f p).meta n (after_moves plan.code f.plain.versions n t) ≡ Some end
-    → coming_after plan f p n ≡ end_entries p (after_moves plan.code f.plain.versions n t) end
-coming_is plan f p n t end lives ends = rw lives (rw ends refl)
-
--- Only a Lease changes what a process took in.
-pub with_taken : (f : Facts) (p : ℕ) (d : Debugged) → d.taken ≡ (debugged_at f p).taken
-    → (q : ℕ) → (debugged_at (with_debugged f p d) q).taken ≡ (debugged_at f q).taken
-with_taken f p d is q = with_same Handout (λ (x : Debugged). x.taken) f p d is q
-
-one_carried : (f g : Facts) (e : Entry) → ((q : ℕ) → (debugged_at g q).taken ≡ (debugged_at f q).taken) → StopIsDue f e → StopIsDue g e
-one_carried f g (entry.Stop p m l n by) same d = subst (λ (h : Handout). WasDue h m l by) (sym (same p)) d
-one_carried f g _ same d = tt
-
-carried : (f g : Facts) (es : List Entry) → ((q : ℕ) → (debugged_at g q).taken ≡ (debugged_at f q).taken) → AreDue f es → AreDue g es
-carried f g [] same d = tt
-carried f g (e ∷ es) same d = (one_carried f g e same d.0, carried f g es same d.1)
-
--- Nothing but a slice and what ends it changes what is to come.
-pub with_coming : (f : Facts) (p : ℕ) (d : Debugged) → (with_debugged f p d).coming ≡ f.coming
-with_coming f zero d = refl
-with_coming f (suc n) d = refl
-
-served_coming : (f : Facts) (c : ℕ) (x : Call) → (served f c x).coming ≡ f.coming
-served_coming f c (call.Continue p) = with_coming f p _
-served_coming f c _ = refl
-
-pub reply_coming : (f : Facts) (c : ℕ) (x : Call) (r : Reply) → (after_reply f c x r).coming ≡ f.coming
-reply_coming f c x (reply.Refused r) = refl
-reply_coming f c x reply.Quiet = refl
-reply_coming f c x _ = served_coming f c x
-
-none_coming : (g : Facts) → g.coming ≡ [] → AreDue g g.coming
-none_coming g none = subst (λ (es : List Entry). AreDue g es) (sym none) tt
-
--- the entries behind one that stood at the head of what is to come
-rest_due : (f g : Facts) (e : Entry) (rest : List Entry) → f.coming ≡ e ∷ rest → ((q : ℕ) → (debugged_at g q).taken ≡ (debugged_at f q).taken)
-    → AreDue f f.coming → AreDue g (behind f.coming)
-rest_due f g e rest is same d =
-    let there : AreDue f (e ∷ rest) = subst (λ (es : List Entry). AreDue f es) is d in
-    subst (λ (es : List Entry). AreDue g es) (ap behind (sym is)) (carried f g rest same there.1)
-
-ran_due : (plan : Plan) (f g : Facts) (p n c : ℕ) → MayRun plan f p n c → ((q : ℕ) → (debugged_at g q).taken ≡ (debugged_at f q).taken)
-    → AreDue g (coming_after plan f p n)
-ran_due plan f g p n c may same =
-    let t = after_moves plan.code f.plain.versions n may.running in
-    let h = (debugged_at f p).taken in
-    let ends = slice_means (λ (x : Next) (b : Break). HasActive h (place_of x).0 (place_of x).1 b.serial) plan.code f.plain.versions h (debugged_at f p).meta may.running n may.end may.slice (due_is h n) in
-    subst (λ (es : List Entry). AreDue g es) (sym (coming_is plan f p n may.running may.end may.lives may.slice.ends))
-    (carried f g (end_entries p t may.end) same (ends_are_due f p t may.end ends))
-
-pub did_coming : (plan : Plan) (f : Facts) (p : ℕ) (k : ActKind) (v bytes : List ℕ) → (note plan f (entry.Did p k v bytes)).coming ≡ f.coming
-did_coming plan f p kind.End v bytes = with_coming f p _
-did_coming plan f p _ v bytes = refl
-
-due_step : (plan : Plan) (f : Facts) (e : Entry) → AreDue f f.coming → May plan f e → AreDue (note plan f e) (note plan f e).coming
-due_step plan f (entry.Start c p m n args) d may = none_coming (note plan f (entry.Start c p m n args)) may.rule.call.whole
-due_step plan f (entry.Load c m v) d may = absurd may.rule
-due_step plan f (entry.Skip con who) d may = absurd may.rule
-due_step plan f (entry.Kill con who) d may = absurd may.rule
-due_step plan f (entry.Expire con who) d may = absurd may.rule
-due_step plan f (entry.Lease p b) d may = none_coming (note plan f (entry.Lease p b)) (with_coming f p _ ∙ may.rule.turn.call.whole)
-due_step plan f (entry.Ran p n c) d may = ran_due plan f (note plan f (entry.Ran p n c)) p n c may.rule (with_taken f p _ refl)
-due_step plan f (entry.Ask p k) d may = absurd may.rule
-due_step plan f (entry.Did p k v bytes) d may = none_coming (note plan f (entry.Did p k v bytes)) (did_coming plan f p k v bytes ∙ may.rule.turn.call.whole)
-due_step plan f (entry.Took p) d may = absurd may.rule
-due_step plan f (entry.Forward p) d may = absurd may.rule
-due_step plan f (entry.Leave p) d may = rest_due f (note plan f (entry.Leave p)) (entry.Leave p) may.rule.0 may.rule.1 (with_taken f p _ refl) d
-due_step plan f (entry.Enter p m n a) d may = rest_due f (note plan f (entry.Enter p m n a)) (entry.Enter p m n a) may.rule.0 may.rule.1 (with_taken f p _ refl) d
-due_step plan f (entry.Signal p r) d may = absurd may.rule
-due_step plan f (entry.Advance t) d may = absurd may.rule
-due_step plan f (entry.Stop p m l n by) d may = rest_due f (note plan f (entry.Stop p m l n by)) (entry.Stop p m l n by) may.rule.0 may.rule.1 (with_taken f p _ refl) d
-due_step plan f (entry.Trigger p m l s a applied) d may = none_coming (note plan f (entry.Trigger p m l s a applied)) may.rule.call.whole
-due_step plan f (entry.Served c x r) d may = none_coming (note plan f (entry.Served c x r)) (reply_coming f c x r ∙ may.rule.call.whole)
-
--- so a Stop that may stand here was due
-stop_here : (plan : Plan) (f : Facts) (p : ℕ) (m : List ℕ) (l n : ℕ) (by : Cause) → AreDue f f.coming → May plan f (entry.Stop p m l n by)
-    → WasDue (debugged_at f p).taken m l by
-stop_here plan f p m l n by d may =
-    let there : AreDue f (entry.Stop p m l n by ∷ may.rule.0) = subst (λ (es : List Entry). AreDue f es) may.rule.1 d in there.0
+    by : ((why ≡ ordered) × (is_ordered h t ≡ true)) ⊎ ((b : Break) × ((why ≡ broken b) × (active_among m l h.rows ≡ Some b)) × (is_ordered h t ≡ false)) → WasDue h m l (level_in t) (cause_of why)
+    by (inl is) = subst (λ (w : Why). WasDue h m l (level_in t) (cause_of w)) (sym is.0) (record { asks = is.1; interpreted = inside })
+    by (inr is) =
+        subst (λ (w : Why). WasDue h m l (level_in t) (cause_of w)) (sym is.1.0)
+        (record { breakpoint = is.0; active = is.1.1; same = refl; interpreted = inside; unasked = is.2 })
 
 pub stop_due : (plan : Plan) (journal : List Entry) (k p : ℕ) (m : List ℕ) (l n : ℕ) (by : Cause) → Legal plan journal
-    → slice_get journal k ≡ Some (entry.Stop p m l n by) → WasDue (debugged_at (facts plan (take k journal)) p).taken m l by
+    → slice_get journal k ≡ Some (entry.Stop p m l n by) → WasDue (debuggee_at (facts plan (take k journal)) p).handout m l n by
 stop_due plan journal k p m l n by legal at =
-    stop_here plan (facts plan (take k journal)) p m l n by (kept_at plan (λ f. AreDue f f.coming) (due_step plan) tt journal k legal)
-    (may_at plan journal k (entry.Stop p m l n by) legal at)
+    let told = stop_there plan journal k p m l n by legal at in
+    let h = (debuggee_at (facts plan (take k journal)) p).handout in
+    let means = due_means plan.code h p told.moves told.running m l told.why told.due in
+    subst (λ (c : Cause). WasDue h m l n c) (sym told.cause)
+    (subst (λ (x : ℕ). WasDue h m l x (cause_of told.why)) (sym told.level_is) (was_due plan.code h p told.moves told.running m l told.why means))
 
--- Where a slice doesn't end nothing is due.
-not_left : (t : Bool) (o : Option SliceEnd) → (if t then Some leaves else o) ≡ None → o ≡ None
-not_left true o e = absurd (none-some leaves (sym e))
-not_left false o e = e
+pub stands_before : (plan : Plan) (journal : List Entry) (k p : ℕ) (m : List ℕ) (l n : ℕ) (by : Cause) → Legal plan journal
+    → slice_get journal k ≡ Some (entry.Stop p m l n by) → StandsBefore (facts plan (take k journal)).plain p m l
+stands_before plan journal k p m l n by legal at =
+    let told = stop_there plan journal k p m l n by legal at in record { running = told.running; lives = told.lives; at = told.at }
 
-not_among : (t : Bool) (x : SliceEnd) (o : Option SliceEnd) → (if t then Some x else o) ≡ None → t ≡ false
-not_among true x o e = absurd (none-some x (sym e))
-not_among false x o e = refl
+pub stop_level : (plan : Plan) (journal : List Entry) (k p : ℕ) (m : List ℕ) (l n : ℕ) (by : Cause) → Legal plan journal
+    → slice_get journal k ≡ Some (entry.Stop p m l n by) → TellsLevel (facts plan (take k journal)).plain p n
+stop_level plan journal k p m l n by legal at =
+    let told = stop_there plan journal k p m l n by legal at in record { running = told.running; lives = told.lives; same = told.level_is }
 
-not_due : (h : Handout) (i : ℕ) (o : Option Break) → if_due h i o ≡ None → o ≡ None
-not_due h i (Some b) e = absurd (none-some (stops b) (sym e))
-not_due h i None e = refl
+pub enter_call : (plan : Plan) (journal : List Entry) (k p : ℕ) (m f : List ℕ) (a : ℕ) → Legal plan journal
+    → slice_get journal k ≡ Some (entry.Enter p m f a) → TellsCall (facts plan (take k journal)).plain p m f a
+enter_call plan journal k p m f a legal at =
+    let told = enter_there plan journal k p m f a legal at in record { running = told.running; lives = told.lives; home = told.home; name = told.name; arity = told.arity }
 
-undue_outside : (h : Handout) (i : ℕ) (m : List ℕ) (l : ℕ) → is_among m h.interpreted ≡ false → due h i m l ≡ None
-undue_outside h i m l is = rw is refl
+-- Where a slice goes on, it ends by none of its rules.
+pub else_none : (t : Bool) (x : SliceEnd) (o : Option SliceEnd) → (if t then Some x else o) ≡ None → (t ≡ false) × (o ≡ None)
+else_none true x o e = absurd (none-some x (sym e))
+else_none false x o e = (refl, e)
 
-begin_undue : (h : Handout) (meta : Bool) (i : ℕ) (m : List ℕ) (l : ℕ) → at_begin h meta i m l ≡ None → due h i m l ≡ None
-begin_undue h true i m l e = not_due h i (due h i m l) e
-begin_undue h false i m l e = undue_outside h i m l (not_among (is_among m h.interpreted) _ _ e)
+due_undue : (h : Handout) (i all : ℕ) (o : Option Why) → if_due h i all o ≡ None → o ≡ None
+due_undue h i all (Some why) e = absurd (none-some (stops why) (sym e))
+due_undue h i all None e = refl
 
-begin_outside : (h : Handout) (meta : Bool) (i : ℕ) (m : List ℕ) (l : ℕ) → at_begin h meta i m l ≡ None → meta ≡ false → is_among m h.interpreted ≡ false
-begin_outside h true i m l e out = absurd (both_ways true out refl)
-begin_outside h false i m l e out = not_among (is_among m h.interpreted) _ _ e
+enters_undue : (h : Handout) (i all : ℕ) (b : Bool) (o : Option Why) → (if b then Some (enters o) else if_spent h i all) ≡ None → b ≡ false
+enters_undue h i all true o e = absurd (none-some (enters o) (sym e))
+enters_undue h i all false o e = refl
 
--- the position is at this beginning
-begins_there : (h : Handout) (meta : Bool) (i : ℕ) (t : Run) (m : List ℕ) (l : ℕ) → end_at h meta i t ≡ None → next t ≡ begins m l → at_begin h meta i m l ≡ None
-begins_there h meta i t m l e is =
-    ap (at_next h meta i) (sym is) ∙ not_left _ (at_next h meta i (next t)) e
+-- what a beginning means by which the slice doesn't end
+record Undue (h : Handout) (m : List ℕ) (o : Option Why) : Type 0 where
+  pub inside : h.is_interpreted ≡ true → o ≡ None
+  pub outside : h.is_interpreted ≡ false → is_among m h.modules ≡ false
 
-goes_on : (d : Debugged) (i : ℕ) (t : Run) → end_at d.taken d.meta i t ≡ None → GoesOn d i t
-goes_on d i t e = record {
+begin_undue : (h : Handout) (i all : ℕ) (m : List ℕ) (o : Option Why) (b : Bool) → h.is_interpreted ≡ b
+    → (if b then if_due h i all o else if is_among m h.modules then Some (enters o) else if_spent h i all) ≡ None → Undue h m o
+begin_undue h i all m o true is e = record { inside = λ yes_. due_undue h i all o e; outside = λ other. absurd (both_ways h.is_interpreted other is) }
+begin_undue h i all m o false is e = record { inside = λ other. absurd (both_ways h.is_interpreted is other); outside = λ same. enters_undue h i all (is_among m h.modules) o e }
+
+-- no beginning of a module that isn't interpreted by what was taken in is due
+not_due : (code : List ModuleTree) (h : Handout) (p i : ℕ) (t : Run) (m : List ℕ) (l : ℕ) (o : Option Why) → due code h p i t m l ≡ o → is_among m h.modules ≡ false → o ≡ None
+not_due code h p i t m l None is out = refl
+not_due code h p i t m l (Some why) is out = absurd (both_ways (is_among m h.modules) out (point_means h i m (due_means code h p i t m l why is).point).0)
+
+goes_on : (plan : Plan) (h : Handout) (p : ℕ) (t : Run) (i : ℕ) → end_at plan.code h p t i ≡ None → GoesOn plan h p t i
+goes_on plan h p t i e = record {
   goes = e;
-  undue = λ m l is. begin_undue d.taken d.meta i m l (begins_there d.taken d.meta i t m l e is);
-  outside = λ m l is. begin_outside d.taken d.meta i m l (begins_there d.taken d.meta i t m l e is);
+  undue = λ m l is. undue_at m l is (told m l is) h.is_interpreted refl;
+  inside = λ on. inside on;
+  outside = λ m l is off. (told m l is).outside off;
 }
+  where
+    u : Run
+    u = after_moves plan.code h.versions i t
 
-ran_here : (plan : Plan) (f : Facts) (p n c : ℕ) → May plan f (entry.Ran p n c) → PassesNone plan f p n
-ran_here plan f p n c may = record {
-  running = may.rule.running;
-  lives = may.rule.lives;
-  each = λ i less. goes_on (debugged_at f p) i (after_moves plan.code f.plain.versions i may.rule.running) (may.rule.slice.goes i less);
-}
+    all : ℕ
+    all = asked_to plan.code h p t i
 
-pub none_passed : (plan : Plan) (journal : List Entry) (k p n c : ℕ) → Legal plan journal
-    → slice_get journal k ≡ Some (entry.Ran p n c) → PassesNone plan (facts plan (take k journal)) p n
-none_passed plan journal k p n c legal at = ran_here plan (facts plan (take k journal)) p n c (may_at plan journal k (entry.Ran p n c) legal at)
+    parts : ((h.is_interpreted && not (has_body h.modules u)) ≡ false) × (at_next plan.code h p i all u (next u) ≡ None)
+    parts = else_none (h.is_interpreted && not (has_body h.modules u)) leaves (at_next plan.code h p i all u (next u)) e
+
+    told : (m : List ℕ) (l : ℕ) → next u ≡ begins m l → Undue h m (due plan.code h p i u m l)
+    told m l is =
+        let there : at_next plan.code h p i all u (begins m l) ≡ None = ap (at_next plan.code h p i all u) (sym is) ∙ parts.1 in
+        begin_undue h i all m (due plan.code h p i u m l) h.is_interpreted refl there
+
+    undue_at : (m : List ℕ) (l : ℕ) → next u ≡ begins m l → Undue h m (due plan.code h p i u m l) → (b : Bool) → h.is_interpreted ≡ b → due plan.code h p i u m l ≡ None
+    undue_at m l is d true on = d.inside on
+    undue_at m l is d false off = not_due plan.code h p i u m l (due plan.code h p i u m l) refl (d.outside off)
+
+    inside : h.is_interpreted ≡ true → has_body h.modules u ≡ true
+    inside on = has_one (has_body h.modules u) (ap (λ (b : Bool). b && not (has_body h.modules u)) (sym on) ∙ parts.0)
+      where
+        has_one : (b : Bool) → not b ≡ false → b ≡ true
+        has_one true e = refl
+        has_one false e = absurd (both_ways true e refl)
+
+pub none_passed : (plan : Plan) (journal : List Entry) (k p n c : ℕ) → Legal plan journal → slice_get journal k ≡ Some (entry.Ran p n c) → PassesNone plan (facts plan (take k journal)) p n
+none_passed plan journal k p n c legal at =
+    let rule = (may_at plan journal k (entry.Ran p n c) legal at).rule in
+    record { running = rule.running; lives = rule.lives; each = λ i less. goes_on plan (debuggee_at (facts plan (take k journal)) p).handout p rule.running i (rule.slice.goes i less) }

@@ -1,10 +1,10 @@
 -- What stands between two places of a journal.
 
-use Rattle.std.specs.Prelude.{◌≡◌, ℕ, ◌<◌, ◌≤◌, List, Some, slice_get}
-use Rattle.edb_event.specs.declared.call.Call.TheVariants as call
-use Rattle.edb_event.specs.declared.reply.Reply.TheVariants as reply
+use Rattle.std.specs.Prelude.{◌≡◌, ℕ, true, ◌<◌, ◌≤◌, List, Some, slice_get}
 use Rattle.edb_event.specs.declared.entry.Entry.{Entry}
 use Rattle.edb_event.specs.declared.entry.Entry.TheVariants as entry
+use Rattle.edb_rules.specs.Replies.{is_accepted}
+use Rattle.edb_rules.specs.Halts.{resumed_process}
 
 -- behind place k and before place n stands an entry of this kind
 pub record StandsBetween (Is : Entry → Type 0) (journal : List Entry) (k n : ℕ) : Type 0 where
@@ -15,17 +15,24 @@ pub record StandsBetween (Is : Entry → Type 0) (journal : List Entry) (k n : �
   pub stands : slice_get journal place ≡ Some what
   pub is : Is what
 
--- the entry is a turn of process p: a lease of it, or an act that it makes
+-- the entry is a turn of process p: a lease of it, an act that it makes, or a step of its pair
 abbrev pub IsTurnOf : ℕ → Entry → Type 0
 IsTurnOf p (entry.Lease q b) = q ≡ p
+IsTurnOf p (entry.Ask q k) = q ≡ p
 IsTurnOf p (entry.Did q k v bytes) = q ≡ p
+IsTurnOf p (entry.Took q) = q ≡ p
+IsTurnOf p (entry.Forward q) = q ≡ p
 IsTurnOf p _ = ⊥
 
--- the entry lets process p go on: a console said `continue`, and it was done
+-- a command that lets a stopped process go on is accepted for process p, whether or not it is stopped; or its expression is
+-- left out
 abbrev pub Resumes : ℕ → Entry → Type 0
-Resumes p e = (c : ℕ) × (e ≡ entry.Served c (call.Continue p) reply.Ok)
+Resumes p (entry.Served c x r) = (is_accepted r ≡ true) × (resumed_process x ≡ p)
+Resumes p (entry.Skip c q) = q ≡ p
+Resumes p _ = ⊥
 
--- the entry is a slice of process p with a move at least
+-- the entry is a slice of process p with a move at least, or its expression is left out
 abbrev pub HasMoves : ℕ → Entry → Type 0
 HasMoves p (entry.Ran q n c) = (q ≡ p) × (1 ≤ n)
+HasMoves p (entry.Skip c q) = q ≡ p
 HasMoves p _ = ⊥

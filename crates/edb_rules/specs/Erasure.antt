@@ -1,6 +1,6 @@
 -- What is left of a journal without the debugger, but for what it changes in a run: labels of a plain run.
 
-use Rattle.std.specs.Prelude.{ℕ, List, [], ◌∷◌, replicate}
+use Rattle.std.specs.Prelude.{List, [], ◌∷◌, replicate}
 use Rattle.std.specs.List.{flat_map}
 use Rattle.edb_model.specs.Labels.{Label, move, act, signal, advance, start, load, skip, kill, expire}
 use Rattle.edb_event.specs.declared.entry.Entry.{Entry}

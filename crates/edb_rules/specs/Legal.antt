@@ -1,16 +1,12 @@
 -- Legal journals: each entry stands where the rules let it stand.
 
-use Rattle.std.specs.Prelude.{◌≡◌, ◌⊎◌, ℕ, ◌+◌, ◌-◌, ◌<◌, ◌≤◌, min, Bool, true, false, List, [], ◌∷◌, length, None, Some, IfSome}
+use Rattle.std.specs.Prelude.{◌≡◌, ◌⊎◌, ℕ, ◌+◌, ◌-◌, ◌<◌, ◌≤◌, min, Bool, true, false, List, [], ◌∷◌, length, None, Some}
+use Rattle.edb_lang.specs.declared.act.ActKind.{ActKind}
 use Rattle.edb_lang.specs.declared.small.Action.{Action}
 use Rattle.edb_lang.specs.Terms.{Datum}
-use Rattle.edb_lang.specs.Terms as term
 use Rattle.edb_lang.specs.TermText.{term_text}
 use Rattle.edb_breaks.specs.Table.{has_row}
-use Rattle.edb_lang.specs.declared.act.ActKind.{ActKind}
-use Rattle.edb_lang.specs.declared.act.ActKind.TheVariants as kind
 use Rattle.edb_model.specs.Running.{Run}
-use Rattle.edb_model.specs.Move.{acts, next, is_move, redex}
-use Rattle.edb_model.specs.Acts.{exit_reason, displayed, true_term}
 use Rattle.edb_model.specs.Plain.{Plain, running_at}
 use Rattle.edb_model.specs.Labels.{steps}
 use Rattle.edb_model.specs.Procs.{most_processes}
@@ -20,133 +16,112 @@ use Rattle.edb_event.specs.declared.reply.Reply.{Reply}
 use Rattle.edb_event.specs.declared.reply.Reply.TheVariants as reply
 use Rattle.edb_event.specs.declared.entry.Entry.{Entry}
 use Rattle.edb_event.specs.declared.entry.Entry.TheVariants as entry
-use Rattle.edb_event.specs.Ranges.{MayAnswer}
+use Rattle.edb_event.specs.Ranges.{IsConsole, MayAnswer}
 use Rattle.edb_rules.specs.Erasure.{labels_of}
 use Rattle.edb_rules.specs.Plans.{Plan}
-use Rattle.edb_rules.specs.Facts.{Facts, at_first, debugged_at}
+use Rattle.edb_rules.specs.Facts.{Facts, at_first, debuggee_at}
 use Rattle.edb_rules.specs.Slices.{SliceEnd, IsSlice}
-use Rattle.edb_rules.specs.Replies.{next_call, is_enabled, is_served, reply_to}
+use Rattle.edb_rules.specs.Replies.{next_call, is_enabled, is_served, refused, reply_to}
+use Rattle.edb_rules.specs.Turns.{Act, leases, does, turn_of, IsFirst}
+use Rattle.edb_rules.specs.Ranks.{MayBegin, AtCommand, AtTurn, AtClock, AtQuiet, NoLease, IsNext, next_deadline}
 use Rattle.edb_rules.specs.Notes.{note}
 
--- A call of the world may begin: the weight isn't reached, and no end of a slice is still to come.
-pub record MayBegin (plan : Plan) (f : Facts) : Type 0 where
-  pub light : f.weight < plan.most
-  pub whole : f.coming ≡ []
-
--- no trigger is owed
-abbrev pub NoTrigger : Facts → Type 0
-NoTrigger f = f.owed ≡ None
-
--- the console has no command left, or the next one, an await, isn't enabled
-abbrev pub NoCommand : Plan → Facts → Type 0
-NoCommand plan f = IfSome (next_call plan f) (λ x. is_enabled f x ≡ false)
-
--- a process may be given a turn: it has more to do, isn't stopped, and no lease of it is out
-pub record IsReady (f : Facts) (p : ℕ) : Type 0 where
-  pub running : Run
-  pub lives : (running_at f.plain p) ≡ Some running
-  pub goes : (debugged_at f p).stopped ≡ false
-  pub free : (debugged_at f p).out ≡ false
-
--- turns go round by number: q stands behind the process that had the last turn and before p
-abbrev pub IsSooner : ℕ → ℕ → ℕ → Type 0
-IsSooner last q p = ((last < q) × (q < p)) ⊎ ((p ≤ last) × ((last < q) ⊎ (q < p)))
-
--- no lease is out
-abbrev pub NoLease : Facts → Type 0
-NoLease f = (q : ℕ) → (debugged_at f q).out ≡ false
-
--- A process has a turn: no trigger is owed, no command is enabled, it is ready, and no ready process stands sooner.
-pub record HasTurn (plan : Plan) (f : Facts) (p : ℕ) : Type 0 where
-  pub call : MayBegin plan f
-  pub no_trigger : NoTrigger f
-  pub no_command : NoCommand plan f
-  pub ready : IsReady f p
-  pub first : (q : ℕ) → IsReady f q → IsSooner f.turn q p → ⊥
-
--- Nothing but the console's awaits can come: nothing is owed, no command is enabled, no process is ready, and no lease
--- is out.
-pub record IsQuiet (plan : Plan) (f : Facts) : Type 0 where
-  pub no_trigger : NoTrigger f
-  pub no_command : NoCommand plan f
-  pub no_lease : NoLease f
-  pub still : (q : ℕ) → IsReady f q → ⊥
-
--- the console's next command starts a process
+-- a console's next command starts a process
 pub record MayStart (plan : Plan) (f : Facts) (c p : ℕ) (m n : List ℕ) (args : Datum) : Type 0 where
-  pub call : MayBegin plan f
-  pub no_trigger : NoTrigger f
-  pub console : c ≡ 1
-  pub next : next_call plan f ≡ Some (command.Start m n args)
+  pub at : AtCommand plan f
+  pub next : IsNext plan f c (command.Start m n args)
   pub number : p ≡ length f.plain.running + 1
   pub few : length f.plain.running < most_processes
 
--- A command's answer: where it is enabled, the reply; an await that isn't is answered `quiet` where nothing else can
--- come.
-abbrev pub IsAnswer : Plan → Facts → ℕ → Call → Reply → Type 0
-IsAnswer plan f c x r =
-    ((is_enabled f x ≡ true) × (r ≡ reply_to plan f c x))
-    ⊎ ((is_enabled f x ≡ false) × (r ≡ reply.Quiet) × IsQuiet plan f)
-
--- the console's next command is answered; one that has an entry of its own where it is accepted was refused
-pub record MayServe (plan : Plan) (f : Facts) (c : ℕ) (x : Call) (r : Reply) : Type 0 where
-  pub call : MayBegin plan f
-  pub no_trigger : NoTrigger f
-  pub console : c ≡ 1
-  pub next : next_call plan f ≡ Some x
+-- a console's next command, which has an entry of its own where it is accepted, is accepted
+pub record MayDo (plan : Plan) (f : Facts) (c : ℕ) (x : Call) : Type 0 where
+  pub at : AtCommand plan f
+  pub next : IsNext plan f c x
   pub known : is_served x ≡ true
+  pub allowed : refused plan f c x ≡ None
+
+-- a console's next command is enabled, and is answered by its reply
+pub record IsAnswered (plan : Plan) (f : Facts) (c : ℕ) (x : Call) (r : Reply) : Type 0 where
+  pub at : AtCommand plan f
+  pub next : IsNext plan f c x
+  pub enabled : is_enabled f x ≡ true
+  pub same : r ≡ reply_to plan f c x
+
+-- Nothing can come but what awaits: of the consoles that have a command left, the least one's is answered `quiet`.
+pub record IsQuiet (plan : Plan) (f : Facts) (c : ℕ) (x : Call) (r : Reply) : Type 0 where
+  pub at : AtQuiet plan f
+  pub console : IsConsole c
+  pub call : next_call plan f c ≡ Some x
+  pub first : (d : ℕ) → 1 ≤ d → d < c → next_call plan f d ≡ None
+  pub same : r ≡ reply.Quiet
+
+abbrev pub IsAnswer : Plan → Facts → ℕ → Call → Reply → Type 0
+IsAnswer plan f c x r = IsAnswered plan f c x r ⊎ IsQuiet plan f c x r
+
+-- a command is answered; one that has an entry of its own where it is accepted was refused
+pub record MayServe (plan : Plan) (f : Facts) (c : ℕ) (x : Call) (r : Reply) : Type 0 where
   pub answer : IsAnswer plan f c x r
+  pub known : is_served x ≡ true
   pub served : MayAnswer x r
+
+-- A lease that is out is given again: a load came since, or the process was never leased again without one.
+pub record IsLeasedAgain (f : Facts) (p : ℕ) : Type 0 where
+  pub running : Run
+  pub lives : running_at f.plain p ≡ Some running
+  pub out : (debuggee_at f p).is_out ≡ true
+  pub allowed : ((debuggee_at f p).was_crossed ≡ true) ⊎ ((debuggee_at f p).was_leased_again ≡ false)
 
 -- a lease stands where a pure move is next; its budget is the lesser of a slice and of what is left of the weight
 -- after it
 pub record MayLease (plan : Plan) (f : Facts) (p budget : ℕ) : Type 0 where
-  pub turn : HasTurn plan f p
-  pub moves : is_move (next turn.ready.running) ≡ true
-  pub allowed : budget ≡ min plan.slice (plan.most - (f.weight + 1))
+  pub at : AtTurn plan f
+  pub first : IsFirst f p
+  pub turn : (turn_of f p ≡ Some leases) ⊎ IsLeasedAgain f p
+  pub allowed : budget ≡ min plan.slice_moves (plan.weight_limit - (f.weight + 1))
 
--- What was leased makes the moves of one slice; no condition is asked. The entries of the slice's end come next.
+-- What was leased makes the moves of one slice, by what it took in; the current versions are those that it took in. The
+-- entries of the slice's end come next.
 pub record MayRun (plan : Plan) (f : Facts) (p moves conditions : ℕ) : Type 0 where
-  pub call : MayBegin plan f
-  pub out : (debugged_at f p).out ≡ true
+  pub begin : MayBegin plan f
+  pub out : (debuggee_at f p).is_out ≡ true
   pub running : Run
-  pub lives : (running_at f.plain p) ≡ Some running
+  pub lives : running_at f.plain p ≡ Some running
+  pub versions : (debuggee_at f p).handout.versions ≡ f.plain.versions
   pub end : SliceEnd
-  pub slice : IsSlice plan.code f.plain.versions (debugged_at f p).taken (debugged_at f p).meta running moves end
-  pub unasked : conditions ≡ 0
-
--- the answer of an act, and the bytes that it prints
-abbrev pub answer_of : ActKind → Run → Datum
-answer_of kind.Print t = true_term
-answer_of kind.End t = exit_reason t
-answer_of _ t = term.nil
-
-abbrev pub printed_by : ActKind → Run → List ℕ
-printed_by kind.Print t = displayed (redex t).1
-printed_by _ t = []
+  pub slice : IsSlice plan.code (debuggee_at f p).handout p running moves conditions end
 
 -- an act stands where it is next, with the text of its answer and what it prints
 pub record MayAct (plan : Plan) (f : Facts) (p : ℕ) (k : ActKind) (value bytes : List ℕ) : Type 0 where
-  pub turn : HasTurn plan f p
-  pub is_next : next turn.ready.running ≡ acts k
-  pub answer : value ≡ term_text (answer_of k turn.ready.running)
-  pub prints : bytes ≡ printed_by k turn.ready.running
+  pub at : AtTurn plan f
+  pub first : IsFirst f p
+  pub act : Act
+  pub turn : turn_of f p ≡ Some (does act)
+  pub kind : k ≡ act.kind
+  pub answer : value ≡ term_text act.answer
+  pub prints : bytes ≡ act.prints
 
 -- the entries of a slice's end stand in their order, directly behind its Ran
 abbrev pub MayEnd : Facts → Entry → Type 0
 MayEnd f e = (rest : List Entry) × (f.coming ≡ e ∷ rest)
 
--- the trigger that is owed stands before everything else; it is applied where the table still has the row
+-- The trigger of the least process that owes one stands before everything else; it is applied where the table still has
+-- the row.
 pub record MayTrigger (plan : Plan) (f : Facts) (p : ℕ) (m : List ℕ) (l serial : ℕ) (a : Action) (applied : Bool) : Type 0 where
-  pub call : MayBegin plan f
-  pub owed : f.owed ≡ Some (record { process = p; home = m; line = l; serial = serial; action = a })
+  pub begin : MayBegin plan f
+  pub owed : (debuggee_at f p).owed ≡ Some (record { home = m; line = l; serial = serial; action = a })
+  pub first : (q : ℕ) → q < p → (debuggee_at f q).owed ≡ None
   pub done : applied ≡ has_row serial m l f.server.table
 
--- The rule of each kind of entry. Acts of pairs, signals, the clock and loads don't come yet, nor does what a console
--- does to a run by `skip`, `kill` and `timeout`.
+-- the clock goes on to the least deadline above it
+pub record MayAdvance (plan : Plan) (f : Facts) (t : ℕ) : Type 0 where
+  pub at : AtClock plan f
+  pub least : next_deadline f.plain.procs ≡ Some t
+
+-- THE RULE OF EACH KIND OF ENTRY. Signals, and the steps of pairs, don't come yet, nor does what a console does to a run by
+-- `skip`, `kill` and `timeout`. No command makes a load, and no act sets a deadline, yet.
 abbrev pub Rule : Plan → Facts → Entry → Type 0
 Rule plan f (entry.Start c p m n args) = MayStart plan f c p m n args
-Rule plan f (entry.Load c m v) = ⊥
+Rule plan f (entry.Load c m v) = MayDo plan f c (command.Load m v)
 Rule plan f (entry.Skip c p) = ⊥
 Rule plan f (entry.Kill c p) = ⊥
 Rule plan f (entry.Expire c p) = ⊥
@@ -159,7 +134,7 @@ Rule plan f (entry.Forward p) = ⊥
 Rule plan f (entry.Leave p) = MayEnd f (entry.Leave p)
 Rule plan f (entry.Enter p m n a) = MayEnd f (entry.Enter p m n a)
 Rule plan f (entry.Signal p r) = ⊥
-Rule plan f (entry.Advance t) = ⊥
+Rule plan f (entry.Advance t) = MayAdvance plan f t
 Rule plan f (entry.Stop p m l n by) = MayEnd f (entry.Stop p m l n by)
 Rule plan f (entry.Trigger p m l s a applied) = MayTrigger plan f p m l s a applied
 Rule plan f (entry.Served c x r) = MayServe plan f c x r
@@ -193,16 +168,23 @@ MayAlone plan f _ = NoLease f
 abbrev pub IsOneHanded : Plan → List Entry → Type 0
 IsOneHanded plan journal = JudgedFrom MayAlone plan (at_first plan) journal
 
--- The world is over: the weight is reached and no end of a slice is still to come; or no command is left, nothing is
--- owed or to come, and nothing can come.
+-- The world is over: the weight is reached and no end of a slice is still to come; or a console said `quit`; or no command
+-- is left and nothing can come.
 pub record IsLimit (plan : Plan) (f : Facts) : Type 0 where
-  pub full : plan.most ≤ f.weight
+  pub full : plan.weight_limit ≤ f.weight
+  pub whole : f.coming ≡ []
+  pub no_quit : f.is_over ≡ false
+
+pub record HasQuit (f : Facts) : Type 0 where
+  pub quit : f.is_over ≡ true
   pub whole : f.coming ≡ []
 
-pub record IsDone (plan : Plan) (f : Facts) : Type 0 where
-  pub call : MayBegin plan f
-  pub served : next_call plan f ≡ None
-  pub quiet : IsQuiet plan f
+pub record IsThrough (plan : Plan) (f : Facts) : Type 0 where
+  pub at : AtQuiet plan f
+  pub through : (c : ℕ) → IsConsole c → next_call plan f c ≡ None
+
+abbrev pub IsDone : Plan → Facts → Type 0
+IsDone plan f = HasQuit f ⊎ IsThrough plan f
 
 abbrev pub IsOver : Plan → Facts → Type 0
 IsOver plan f = IsDone plan f ⊎ IsLimit plan f

@@ -4,7 +4,7 @@ use Rattle.std.specs.Prelude.{ℕ, true, if◌then◌else◌, List, [], ◌∷�
 use Rattle.std.specs.List.{fold}
 use Rattle.edb_lang.specs.declared.small.Action.TheVariants as action
 use Rattle.edb_breaks.specs.Table.{Table, empty_table, with_row, with_enabled}
-use Rattle.edb_event.specs.declared.call.Call.TheVariants as call
+use Rattle.edb_event.specs.declared.call.Call.TheVariants as command
 use Rattle.edb_event.specs.declared.reply.Reply.TheVariants as reply
 use Rattle.edb_event.specs.declared.entry.Entry.{Entry}
 use Rattle.edb_event.specs.declared.entry.Entry.TheVariants as entry
@@ -12,7 +12,7 @@ use Rattle.edb_rules.specs.Facts.{is_among}
 
 -- an `ib` that was done adds a row; a trigger `enable` that was applied makes its row active; all else leaves the table
 abbrev pub table_with : Table → Entry → Table
-table_with t (entry.Served c (call.Ib m l) reply.Ok) = with_row m l t
+table_with t (entry.Served c (command.Ib m l) reply.Ok) = with_row m l t
 table_with t (entry.Trigger p m l serial action.Enable true) = with_enabled serial m l t
 table_with t _ = t
 
@@ -21,16 +21,16 @@ table_of journal = fold table_with empty_table journal
 
 -- an `ii` that was done adds its module behind the others, where it isn't among them
 abbrev pub modules_with : List (List ℕ) → Entry → List (List ℕ)
-modules_with ms (entry.Served c (call.Ii m) reply.Ok) = if is_among m ms then ms else ms ++ m ∷ []
+modules_with ms (entry.Served c (command.Ii m) reply.Ok) = if is_among m ms then ms else ms ++ m ∷ []
 modules_with ms _ = ms
 
 abbrev pub modules_of : List Entry → List (List ℕ)
 modules_of journal = fold modules_with [] journal
 
 -- an `ia` that was done attaches its console to its process
-abbrev pub consoles_with : List (ℕ × ℕ) → Entry → List (ℕ × ℕ)
-consoles_with pairs (entry.Served c (call.Ia p) reply.Ok) = pairs ++ (p, c) ∷ []
-consoles_with pairs _ = pairs
+abbrev pub attached_with : List (ℕ × ℕ) → Entry → List (ℕ × ℕ)
+attached_with pairs (entry.Served c (command.Ia p) reply.Ok) = pairs ++ (p, c) ∷ []
+attached_with pairs _ = pairs
 
-abbrev pub consoles_of : List Entry → List (ℕ × ℕ)
-consoles_of journal = fold consoles_with [] journal
+abbrev pub attached_of : List Entry → List (ℕ × ℕ)
+attached_of journal = fold attached_with [] journal

@@ -1,6 +1,7 @@
 -- The causes of the ends exclude each other, so an end comes wherever its cause holds.
 
 use Rattle.std.proofs.Common.{◌≡◌, inl, inr, ℕ, Bool, List, [], ◌∷◌, get_or, Option, None, Some, IsSomeAnd, refl, sym, ◌∙◌, ap, ap₂, subst, arith}
+use Rattle.std.proofs.lemmas.Bool.{both_ways}
 use Rattle.std.proofs.lemmas.Option.{none-some}
 use Rattle.edb_lang.specs.Syntax.{ModuleTree}
 use Rattle.edb_io.specs.OneRead.{Read}
@@ -11,6 +12,7 @@ use Rattle.edb_small.specs.SmallModule.{IsModule}
 use Rattle.edb_event.specs.declared.call.Command.{Command}
 use Rattle.edb_event.specs.declared.entry.Entry.{Entry}
 use Rattle.edb_cmds.specs.Listing.{IsScriptOf, IsScriptFault}
+use Rattle.edb_event.specs.Books.{commands_of}
 use Rattle.edb_rules.specs.Plans.{Plan}
 use Rattle.edb_rules.specs.Facts.{Facts}
 use Rattle.edb_rules.specs.Notes.{facts}
@@ -73,13 +75,14 @@ one_plan : OneModule → OneListing → (n : Names) (old new : List Read) (p q :
 one_plan module_ listing n old new p q a b =
     let tree : a.tree ≡ b.tree
     = module_ b.file a.tree b.tree (subst (λ (bytes : List ℕ). IsModule bytes a.tree) (files_same n old new a.script a.file b.script b.file a.read b.read) a.is_module) b.is_module in
-    let same : p.commands ≡ q.commands
-    = listing b.script p.commands q.commands (subst (λ (bytes : List ℕ). IsScriptOf bytes p.commands) (scripts_same n old new a.script a.file b.script b.file a.read b.read) a.is_script) b.is_script in
+    let same : (commands_of 1 p.commands) ≡ (commands_of 1 q.commands)
+    = listing b.script (commands_of 1 p.commands) (commands_of 1 q.commands) (subst (λ (bytes : List ℕ). IsScriptOf bytes (commands_of 1 p.commands)) (scripts_same n old new a.script a.file b.script b.file a.read b.read) a.is_script) b.is_script in
     a.is_plan ∙ (ap₂ (λ (t : ModuleTree) (c : List Command). plan_with (t ∷ []) c) tree same ∙ sym b.is_plan)
 
 -- below the greatest weight, and not below it
 not_both : (p : Plan) (f : Facts) → IsDone p f → IsLimit p f → ⊥
-not_both p f done limit = omega (arith, done.call.light, limit.full)
+not_both p f (inl quit) limit = both_ways f.is_over limit.no_quit quit.quit
+not_both p f (inr done) limit = omega (arith, done.at.at.at.at.at.begin.light, limit.full)
 
 module _ (names : Option Names) (old new : List Read) (before now sink_before sink_now : ℕ) (journal : List Entry) (left : Tables) (had has : Option (List ℕ)) (was is : Bool) where
   abbrev Caused : End → Type 0
@@ -121,7 +124,7 @@ module _ (names : Option Names) (old new : List Read) (before now sink_before si
       → RefusesScript n old new line → ⊥
   ran_no_script never n plan line some accepted r =
       let a = the_names names (λ m. IsAccepted m old new plan) n some accepted in
-      no_script_both never n old new a.script a.file plan.commands line a.read a.is_script r
+      no_script_both never n old new a.script a.file (commands_of 1 plan.commands) line a.read a.is_script r
 
   pub script_exact : NeverBoth → OneLine → (e : End) → Caused e → Left e → ScriptExactly names old new e
   script_exact never one Done cause run n line some r = absurd (ran_no_script never n run.plan line some run.accepted r)
@@ -152,7 +155,7 @@ module _ (names : Option Names) (old new : List Read) (before now sink_before si
   done_exact module_ listing never (ModuleRefused k NotYet) cause run flag n q some a clear still ended =
       absurd (no_module_both n old new a.script a.file a.tree a.read a.is_module (the_names names (λ m. RefusesModule m old new) n some cause.1))
   done_exact module_ listing never (ScriptRefused line) cause run flag n q some a clear still ended =
-      absurd (no_script_both never n old new a.script a.file q.commands line a.read a.is_script (the_names names (λ m. RefusesScript m old new line) n some cause))
+      absurd (no_script_both never n old new a.script a.file (commands_of 1 q.commands) line a.read a.is_script (the_names names (λ m. RefusesScript m old new line) n some cause))
   done_exact module_ listing never Limit cause run flag n q some a clear still ended =
       absurd (not_both q (facts q journal) ended
       (subst (λ (p : Plan). IsLimit p (facts p journal)) (ran_here module_ listing n run.plan q some run.accepted a) run.over))
@@ -169,7 +172,7 @@ module _ (names : Option Names) (old new : List Read) (before now sink_before si
   limit_exact module_ listing never (ModuleRefused k NotYet) cause run flag n q some a clear still ended =
       absurd (no_module_both n old new a.script a.file a.tree a.read a.is_module (the_names names (λ m. RefusesModule m old new) n some cause.1))
   limit_exact module_ listing never (ScriptRefused line) cause run flag n q some a clear still ended =
-      absurd (no_script_both never n old new a.script a.file q.commands line a.read a.is_script (the_names names (λ m. RefusesScript m old new line) n some cause))
+      absurd (no_script_both never n old new a.script a.file (commands_of 1 q.commands) line a.read a.is_script (the_names names (λ m. RefusesScript m old new line) n some cause))
   limit_exact module_ listing never Limit cause run flag n q some a clear still ended = inl refl
   limit_exact module_ listing never WriteFault cause run flag n q some a clear still ended = absurd (cc)
   limit_exact module_ listing never NoMemory cause run flag n q some a clear still ended = inr refl

@@ -4,9 +4,9 @@ use Rattle.std.proofs.Common.{sym, ◌∙◌}
 use Rattle.edb_rules.specs.Plans.{Plan}
 use Rattle.edb_rules.specs.Notes.{facts}
 use Rattle.edb_rules.proofs.Journals.{erased}
-use Rattle.edb_rules.proofs.Stops.{stop_due, none_passed}
-use Rattle.edb_rules.proofs.Places.{stands_before}
-use Rattle.edb_rules.proofs.Resumed.{moved_since}
+use Rattle.edb_rules.proofs.Stops.{stop_due, stands_before, none_passed}
+use Rattle.edb_rules.proofs.Fresh.{moved_since}
+use Rattle.edb_rules.proofs.Overs.{done_through}
 use Rattle.edb_rules.proofs.Commanded.{in_order, at_place, served_is, all_served, reply_is}
 use Rattle.edb_world.specs.declared.world.Outcome.{Outcome}
 use Rattle.edb_world.specs.Outcomes.{IsOutcome}
@@ -30,6 +30,7 @@ is_run plan left is = record {
     (in_order plan left.journal.entries k e c x is.legal at command).0,
     at_place plan left.journal.entries k e c x is.legal at command,
   );
-  all = λ done. sym (served_is plan left.journal.entries) ∙ all_served plan left.journal.entries is.legal done;
+  all = λ done c console. sym (served_is plan left.journal.entries c is.legal)
+      ∙ all_served plan left.journal.entries c is.legal (done_through plan left.journal.entries is.legal done) console;
   replies = λ k c x r at. reply_is plan left.journal.entries k c x r is.legal at;
 }

@@ -7,7 +7,7 @@ use Rattle.edb_event.specs.declared.call.Command.{Command}
 use Rattle.edb_event.specs.Ranges.{AreCommands}
 use Rattle.edb_cmds.specs.Listing.{IsScriptOf}
 use Rattle.edb_rules.specs.Bounds.{IsBounded, AreBounded}
-use Rattle.edb_world.specs.Plans.{IsPlan}
+use Rattle.edb_world.specs.Plans.{AreServed, IsPlan}
 use Rattle.edb_session.specs.Runs.{plan_with}
 use Rattle.edb_session.proofs.Served.{script_served}
 
@@ -15,8 +15,8 @@ pub is_plan : (script : List ℕ) (tree : ModuleTree) (code : List ModuleTree) (
     → IsScriptOf script commands → AreCommands commands → IsPlan (plan_with code commands)
 is_plan script tree code commands short is listed ranges = record {
   bounds = subst AreBounded (sym is) (All-cons IsBounded tree [] short (All-nil IsBounded));
-  commands = ranges;
-  known = script_served script commands listed;
+  commands = (ranges, tt);
+  known = All-cons AreServed commands [] (script_served script commands listed) (All-nil AreServed);
   slices = omega arith;
   bound = omega arith;
 }

@@ -7,6 +7,7 @@ use Rattle.edb_files.specs.Names.{is_option}
 use Rattle.edb_files.specs.InOrder.{Asked, AreRead, ReadsUp, text_file}
 use Rattle.edb_small.specs.SmallModule.{IsModule}
 use Rattle.edb_cmds.specs.Listing.{IsScriptOf, IsScriptFault}
+use Rattle.edb_event.specs.Books.{commands_of}
 use Rattle.edb_rules.specs.Plans.{Plan}
 use Rattle.edb_session.specs.Runs.{plan_with}
 
@@ -46,8 +47,8 @@ pub record IsAccepted (n : Names) (old new : List Read) (plan : Plan) : Type 0 w
   pub read : AreRead (both n) old new (script ∷ (file ∷ []))
   pub tree : ModuleTree
   pub is_module : IsModule file tree
-  pub is_script : IsScriptOf script plan.commands
-  pub is_plan : plan ≡ plan_with (tree ∷ []) plan.commands
+  pub is_script : IsScriptOf script (commands_of 1 plan.commands)
+  pub is_plan : plan ≡ plan_with (tree ∷ []) (commands_of 1 plan.commands)
 
 -- both files were read in order, up to one whose read failed or up to any place; without names, none was
 abbrev pub ReadsSome : Option Names → List Read → List Read → Type 0

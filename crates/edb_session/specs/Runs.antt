@@ -1,6 +1,6 @@
 -- What a run leaves: a legal journal of one hand, a plain run without the debugger, and its tables.
 
-use Rattle.std.specs.Prelude.{◌≡◌, List}
+use Rattle.std.specs.Prelude.{◌≡◌, List, [], ◌∷◌}
 use Rattle.edb_lang.specs.Syntax.{ModuleTree}
 use Rattle.edb_model.specs.declared.tables.Tables.{Tables}
 use Rattle.edb_model.specs.Plain.{Plain, tables_of}
@@ -12,9 +12,9 @@ use Rattle.edb_rules.specs.Plans.{Plan}
 use Rattle.edb_rules.specs.Legal.{Legal, IsOneHanded}
 use Rattle.edb_session.specs.Headline.{StopsWereDue, NoneWasPassed, CommandsInOrder, AllCame, RepliesOfOneThread}
 
--- until there are options a slice has at most 100 moves, and a journal is over at the weight 100,000
+-- One script gives the commands of console 1, and the other consoles have none. Until there are options a slice has at most 100 moves, and a journal is over at the weight 100,000
 abbrev pub plan_with : List ModuleTree → List Command → Plan
-plan_with code commands = record { code = code; commands = commands; slice = 100; most = 100000 }
+plan_with code commands = record { code = code; commands = commands ∷ []; slice_moves = 100; weight_limit = 100000 }
 
 -- The journal is legal, and one hand made it; struck of the debugger's entries it is a plain run of the modules;
 -- the tables are those of the state to which that run leads. Stops, commands and replies are as they have to be.

@@ -1,78 +1,108 @@
--- The entry of an act of the process that has the turn may stand.
+-- The act that is next for a process: what it makes of the state, and that its entry may stand.
 
-use Rattle.std.proofs.Common.{◌≡◌, ◌≤◌, ◌+◌, ◌-◌, ℕ, zero, suc, false, List, [], ◌∷◌, ◌++◌, Option, None, Some, slice_set, refl, sym, ◌∙◌, ap, subst, arith}
+use Rattle.std.proofs.Common.{◌≡◌, inl, inr, ◌≤◌, ◌+◌, ◌-◌, ℕ, zero, suc, false, List, [], ◌++◌, Option, None, Some, IsSome, slice_set, refl, sym, ◌∙◌, ap, subst, arith}
+use Rattle.std.specs.Option.{IsSomeAnd}
+use Rattle.std.proofs.lemmas.Option.{same_Some}
 use Rattle.edb_lang.specs.declared.act.ActKind.{ActKind}
 use Rattle.edb_lang.specs.declared.act.ActKind.TheVariants as kind
+use Rattle.edb_lang.specs.TermText.{term_text}
+use Rattle.edb_lang.specs.Terms.{Datum}
 use Rattle.edb_model.specs.Running.{Run}
 use Rattle.edb_model.specs.Move.{acts, next, redex, answered}
 use Rattle.edb_model.specs.Acts.{displayed, true_term, exit_reason}
 use Rattle.edb_model.specs.Bonds.{no_bonds}
 use Rattle.edb_model.specs.Procs.{Member, new_member, numbered, ended_member}
 use Rattle.edb_model.specs.Plain as model
-use Rattle.edb_event.specs.declared.entry.Entry.{Entry}
 use Rattle.edb_event.specs.declared.entry.Entry.TheVariants as entry
 use Rattle.edb_rules.specs.Plans.{Plan}
-use Rattle.edb_rules.specs.Facts.{Debugged, Facts, debugged_at}
-use Rattle.edb_rules.specs.Notes.{note}
-use Rattle.edb_event.specs.Ranges.{IsEntry}
-use Rattle.edb_rules.specs.Legal.{MayBegin, NoTrigger, NoCommand, NoLease, HasTurn, May}
-use Rattle.edb_rules.proofs.OneJournal.{did_none_new}
-use Rattle.edb_rules.proofs.Stops.{did_coming}
-use Rattle.edb_world.specs.declared.world.World.{World}
+use Rattle.edb_rules.specs.Facts.{Debuggee, Facts, debuggee_at}
+use Rattle.edb_rules.specs.Turns.{Act, does, act_of, turn_of, IsFirst}
+use Rattle.edb_rules.specs.Ranks.{AtTurn}
+use Rattle.edb_rules.specs.Notes.{acted_debuggee, ended_debuggee}
+use Rattle.edb_rules.specs.Legal.{MayAct, May}
+use Rattle.edb_rules.proofs.Turning.{acts_in, act_is, same_act}
 use Rattle.edb_world.specs.Known.{Known, noted, running_at}
-use Rattle.edb_world.specs.Turns.{IsFirstReady, act_entry}
-use Rattle.edb_world.specs.Plans.{IsPlan}
-use Rattle.edb_world.specs.Worlds.{Keeps, Went}
-use Rattle.edb_world.proofs.Growing.{none_out}
-use Rattle.edb_world.proofs.Turning.{went, in_range}
+use Rattle.edb_world.specs.Turns.{IsActing, act_entry}
 
-abbrev pub turn : (plan : Plan) (f : Facts) (p : ℕ) → MayBegin plan f → NoTrigger f → NoCommand plan f → IsFirstReady f p → HasTurn plan f p
-turn plan f p begin quiet none first =
-    record { call = begin; no_trigger = quiet; no_command = none; ready = first.ready; first = first.first }
+-- a process that is ready for an act has that act next
+pub record IsNextAct (f : Facts) (p : ℕ) (k : ActKind) (a : Act) : Type 0 where
+  pub running : Run
+  pub lives : model.running_at f.plain p ≡ Some running
+  pub is_next : next running ≡ acts k
+  pub act : act_of k running ≡ Some a
 
-pub print_may : (plan : Plan) (f : Facts) (p : ℕ) → MayBegin plan f → NoTrigger f → NoCommand plan f → (first : IsFirstReady f p)
-    → next first.ready.running ≡ acts kind.Print → May plan f (act_entry p kind.Print first.ready.running)
-print_may plan f p begin quiet none first is =
+pub next_act : (f : Facts) (p : ℕ) (k : ActKind) (acting : IsActing f p k) → IsNextAct f p k acting.act
+next_act f p k acting =
+    let told = acts_in f p acting.act acting.turn in
     record {
-      rule = record { turn = turn plan f p begin quiet none first; is_next = is; answer = refl; prints = refl };
-      plain = record (model.with_running f.plain p (Some (answered true_term first.ready.running))) { output = f.plain.output ++ displayed (redex first.ready.running).1 };
-      enabled = rw first.ready.lives (rw is refl);
+      running = told.ready.running;
+      lives = told.ready.lives;
+      is_next = told.is_next ∙ ap acts (sym acting.kind);
+      act = subst (λ (x : ActKind). act_of x told.ready.running ≡ Some acting.act) (sym acting.kind) told.act;
     }
 
-pub end_may : (plan : Plan) (f : Facts) (p : ℕ) → MayBegin plan f → NoTrigger f → NoCommand plan f → (first : IsFirstReady f p)
-    → next first.ready.running ≡ acts kind.End → May plan f (act_entry p kind.End first.ready.running)
-end_may plan f p begin quiet none first is =
-    record {
-      rule = record { turn = turn plan f p begin quiet none first; is_next = is; answer = refl; prints = refl };
-      plain = model.ended f.plain p (exit_reason first.ready.running);
-      enabled = rw first.ready.lives (rw is refl);
-    }
+pub acting_lives : (f : Facts) (p : ℕ) (k : ActKind) → IsActing f p k → IsSome (model.running_at f.plain p)
+acting_lives f p k acting = subst (λ (o : Option Run). IsSome o) (sym (next_act f p k acting).lives) refl
 
--- an act of the process that has the turn leads to a world that goes on
-pub act_went : (old new : World) (p : ℕ) (k : ActKind) (t : Run) (e : Entry) → Keeps old → NoLease old.state.facts → May old.state.plan old.state.facts (act_entry p k t)
-    → e ≡ act_entry p k t → new.state ≡ noted old.state e → new.journal.entries ≡ old.journal.entries ++ e ∷ [] → Went old new
-act_went old new p k t e keeps none may is state entries =
-    let s = old.state in
-    went old new (act_entry p k t) keeps may none
-    (did_coming s.plan s.facts p k _ _ ∙ keeps.whole)
-    (none_out s.facts (note s.plan s.facts (act_entry p k t)) none (did_none_new s.plan s.facts p k _ _))
-    (state ∙ ap (λ (x : Entry). noted s x) is)
-    (entries ∙ ap (λ (x : Entry). old.journal.entries ++ x ∷ []) is)
+-- what is next for the process that was found there
+pub next_here : (f : Facts) (p : ℕ) (k : ActKind) (acting : IsActing f p k) (t : Run) → model.running_at f.plain p ≡ Some t → next t ≡ acts k
+next_here f p k acting t lives =
+    let told = next_act f p k acting in subst (λ (x : Run). next x ≡ acts k) (same_Some told.running t (sym told.lives ∙ lives)) told.is_next
 
-pub act_in_range : (w : World) (p : ℕ) (k : ActKind) (t : Run) (e : Entry) → IsPlan w.state.plan → Keeps w → May w.state.plan w.state.facts (act_entry p k t)
-    → e ≡ act_entry p k t → IsEntry e
-act_in_range w p k t e plan keeps may is =
-    subst (λ (x : Entry). IsEntry x) (sym is) (in_range w.state.plan w.journal.entries w.state.facts (act_entry p k t) plan keeps.kept may)
+-- the act of the turn, by the expression
+same_turn : (f : Facts) (p : ℕ) (k : ActKind) → IsActing f p k → (t : Run) (a : Act) → model.running_at f.plain p ≡ Some t → turn_of f p ≡ Some (does a) → act_of k t ≡ Some a
+same_turn f p k acting t a lives turn =
+    let told = next_act f p k acting in
+    let same : acting.act ≡ a = same_act acting.act a (same_Some (does acting.act) (does a) (sym acting.turn ∙ turn)) in
+    ap (act_of k) (sym (same_Some told.running t (sym told.lives ∙ lives))) ∙ (told.act ∙ ap (λ (x : Act). Some x) same)
 
--- the end of a process, by what stands at its place in each list
-pub end_noted : (k new : Known) (p : ℕ) (t : Run) (value : List ℕ) (m : Member) (d e : Debugged) (q : Option Run) (n : Member)
-    → 1 ≤ p → running_at k p ≡ Some t → next t ≡ acts kind.End
-    → k.facts.plain.procs.names ≡ [] → k.facts.plain.procs.bonds ≡ no_bonds
-    → numbered new_member k.facts.plain.procs.members p ≡ m → n ≡ ended_member (exit_reason t) m
-    → debugged_at k.facts p ≡ d → e ≡ record d { meta = false; stopped = false; out = false } → q ≡ None
+pub print_is : (f : Facts) (p : ℕ) (acting : IsActing f p kind.Print) (t : Run) (a : Act) → model.running_at f.plain p ≡ Some t → turn_of f p ≡ Some (does a)
+    → entry.Did p kind.Print (term_text true_term) (displayed (redex t).1) ≡ act_entry p a
+print_is f p acting t a lives turn = ap (act_entry p) (same_Some _ a (same_turn f p kind.Print acting t a lives turn))
+
+pub end_is : (f : Facts) (p : ℕ) (acting : IsActing f p kind.End) (t : Run) (a : Act) → model.running_at f.plain p ≡ Some t → turn_of f p ≡ Some (does a)
+    → entry.Did p kind.End (term_text (exit_reason t)) [] ≡ act_entry p a
+end_is f p acting t a lives turn = ap (act_entry p) (same_Some _ a (same_turn f p kind.End acting t a lives turn))
+
+-- an act that isn't a print is the end
+pub end_acting : (f : Facts) (p : ℕ) (k : ActKind) → IsActing f p k → (k ≡ kind.Print → ⊥) → IsActing f p kind.End
+end_acting f p k acting other =
+    let told = next_act f p k acting in
+    elim (act_is k told.running acting.act told.act) [
+      | inl print ↦ absurd (other print)
+      | inr end ↦ record { act = acting.act; turn = acting.turn; kind = sym end ∙ acting.kind }
+    ]
+
+-- the answer was put into the process that is there
+pub answered_is : (o : Option Run) (t : Run) (q : Option Run) (v : Datum) → o ≡ Some t → IsSomeAnd o (λ u. q ≡ Some (answered v u)) → q ≡ Some (answered v t)
+answered_is o t q v is there = subst (λ (x : Option Run). IsSomeAnd x (λ u. q ≡ Some (answered v u))) is there
+
+-- the state after each, by what stands at the process's place in each list
+pub print_noted : (k new : Known) (p : ℕ) (t : Run) (value bytes : List ℕ) (d e : Debuggee) (q : Option Run)
+    → 1 ≤ p → running_at k p ≡ Some t → next t ≡ acts kind.Print → k.facts.is_over ≡ false
+    → debuggee_at k.facts p ≡ d → e ≡ acted_debuggee kind.Print d → q ≡ Some (answered true_term t) → bytes ≡ displayed (redex t).1
     → new ≡ record k {
       facts = record k.facts {
-        debugged = slice_set k.facts.debugged (p - 1) e;
+        debuggees = slice_set k.facts.debuggees (p - 1) e;
+        turn = p;
+        weight = k.facts.weight + 1;
+        plain = record k.facts.plain { running = slice_set k.facts.plain.running (p - 1) q; output = k.facts.plain.output ++ bytes };
+      };
+    }
+    → new ≡ noted k (entry.Did p kind.Print value bytes)
+print_noted k new zero t value bytes d e q some lives is open_ known after next_ printed same = absurd (omega (arith, some))
+print_noted k new (suc i) t value bytes d e q some lives is open_ known after next_ printed same =
+    let back : suc i - 1 ≡ i = omega arith in
+    same ∙ rw (back, next_, printed, after, ← known, lives, is, open_) refl
+
+pub end_noted : (k new : Known) (p : ℕ) (t : Run) (value : List ℕ) (m : Member) (d e : Debuggee) (q : Option Run) (n : Member)
+    → 1 ≤ p → running_at k p ≡ Some t → next t ≡ acts kind.End → k.facts.is_over ≡ false
+    → k.facts.plain.procs.names ≡ [] → k.facts.plain.procs.bonds ≡ no_bonds
+    → numbered new_member k.facts.plain.procs.members p ≡ m → n ≡ ended_member (exit_reason t) m
+    → debuggee_at k.facts p ≡ d → e ≡ ended_debuggee d → q ≡ None
+    → new ≡ record k {
+      facts = record k.facts {
+        debuggees = slice_set k.facts.debuggees (p - 1) e;
         turn = p;
         weight = k.facts.weight + 1;
         plain = record k.facts.plain {
@@ -82,7 +112,27 @@ pub end_noted : (k new : Known) (p : ℕ) (t : Run) (value : List ℕ) (m : Memb
       };
     }
     → new ≡ noted k (entry.Did p kind.End value [])
-end_noted k new zero t value m d e q n some lives is names bonds member ends known after none same = absurd (omega arith)
-end_noted k new (suc i) t value m d e q n some lives is names bonds member ends known after none same =
+end_noted k new zero t value m d e q n some lives is open_ names bonds member ends known after none same = absurd (omega (arith, some))
+end_noted k new (suc i) t value m d e q n some lives is open_ names bonds member ends known after none same =
     let back : suc i - 1 ≡ i = omega arith in
-    same ∙ rw (back, none, ends, ← member, after, ← known, lives, is, names, bonds) refl
+    same ∙ rw (back, none, ends, ← member, after, ← known, lives, is, open_, names, bonds) refl
+
+-- the entry of an act of the process that has the turn may stand
+pub act_may : (plan : Plan) (f : Facts) (p : ℕ) (k : ActKind) (acting : IsActing f p k) → AtTurn plan f → IsFirst f p → May plan f (act_entry p acting.act)
+act_may plan f p k acting at first =
+    let told = next_act f p k acting in
+    let t = told.running in
+    let rule : MayAct plan f p acting.act.kind (term_text acting.act.answer) acting.act.prints
+    = record { at = at; first = first; act = acting.act; turn = acting.turn; kind = refl; answer = refl; prints = refl } in
+    elim (act_is k t acting.act told.act) [
+      | inl print ↦ (
+          let is : next t ≡ acts kind.Print = told.is_next ∙ ap acts print in
+          record {
+            rule = rule;
+            plain = record (model.with_running f.plain p (Some (answered true_term t))) { output = f.plain.output ++ displayed (redex t).1 };
+            enabled = rw told.lives (rw is refl);
+          })
+      | inr end ↦ (
+          let is : next t ≡ acts kind.End = told.is_next ∙ ap acts end in
+          record { rule = rule; plain = model.ended f.plain p (exit_reason t); enabled = rw told.lives (rw is refl) })
+    ]

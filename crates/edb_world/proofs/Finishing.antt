@@ -3,7 +3,6 @@
 use Rattle.std.proofs.Common.{◌≡◌, Bool, true, false, not, List, sym, ◌∙◌, ap, subst}
 use Rattle.edb_event.specs.declared.entry.Entry.{Entry}
 use Rattle.edb_model.specs.Plain.{tables_of}
-use Rattle.edb_model.specs.Plain as model
 use Rattle.edb_rules.specs.Plans.{Plan}
 use Rattle.edb_rules.specs.Facts.{Facts}
 use Rattle.edb_rules.specs.Notes.{facts}

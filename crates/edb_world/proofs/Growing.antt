@@ -1,15 +1,18 @@
 -- A journal that grows by an entry of its turn stays legal and of one hand, and has the facts of one entry more.
 
-use Rattle.std.proofs.Common.{◌≡◌, ℕ, ◌<◌, ◌≤◌, Bool, true, false, List, [], ◌∷◌, ◌++◌, refl, sym, ◌∙◌, ap, subst, arith}
+use Rattle.std.proofs.Common.{◌≡◌, ◌<◌, ◌≤◌, Bool, true, false, List, [], ◌∷◌, ◌++◌, refl, sym, ◌∙◌, ap, subst, arith}
 use Rattle.std.proofs.lemmas.Bool.{both_ways}
 use Rattle.edb_event.specs.declared.entry.Entry.{Entry}
 use Rattle.edb_event.specs.declared.entry.Entry.TheVariants as entry
 use Rattle.edb_event.specs.Weights.{weight_of}
 use Rattle.edb_rules.specs.Plans.{Plan}
-use Rattle.edb_rules.specs.Facts.{Facts, at_first, debugged_at}
+use Rattle.edb_rules.specs.Facts.{Facts, at_first, debuggee_at}
 use Rattle.edb_rules.specs.Notes.{note, after}
-use Rattle.edb_rules.specs.Legal.{May, MayAlone, JudgedFrom, NoLease}
+use Rattle.edb_rules.specs.Ranks.{NoLease}
+use Rattle.edb_rules.specs.Legal.{May, MayAlone, JudgedFrom}
 use Rattle.edb_rules.proofs.Journals.{after_push, legal_push}
+use Rattle.edb_rules.proofs.Endings.{IsNoLease}
+use Rattle.edb_rules.proofs.OneJournal.{none_new}
 use Rattle.edb_world.specs.Worlds.{IsKept}
 
 pub judged_push : (judge : Plan → Facts → Entry → Type 0) (plan : Plan) (f : Facts) (es : List Entry) (e : Entry)
@@ -55,5 +58,5 @@ pub is_false : (b : Bool) → (b ≡ true → ⊥) → b ≡ false
 is_false true denied = absurd (denied refl)
 is_false false denied = refl
 
-pub none_out : (f g : Facts) → NoLease f → ((q : ℕ) → (debugged_at g q).out ≡ true → (debugged_at f q).out ≡ true) → NoLease g
-none_out f g none fewer q = is_false (debugged_at g q).out (λ o. both_ways _ (none q) (fewer q o))
+pub free_after : (plan : Plan) (f : Facts) (e : Entry) → NoLease f → May plan f e → IsNoLease e → NoLease (note plan f e)
+free_after plan f e none may other q = is_false (debuggee_at (note plan f e) q).is_out (λ o. both_ways _ (none q) (none_new plan f e may other q o))

@@ -1,18 +1,20 @@
 -- The moves of a slice are steps of a plain run, which change one process alone.
 
-use Rattle.std.proofs.Common.{◌≡◌, ℕ, zero, suc, ◌+◌, ◌-◌, ◌<◌, ◌≤◌, max, nat_eq, Bool, true, false, if◌then◌else◌, not, ◌&&◌, List, [], ◌∷◌, ◌++◌, Option, None, Some, IsSome, replicate, slice_index_or, slice_set, refl, sym, ◌∙◌, ap, arith}
+use Rattle.std.proofs.Common.{◌≡◌, ℕ, zero, suc, ◌+◌, ◌-◌, ◌<◌, ◌≤◌, max, nat_eq, Bool, true, false, if◌then◌else◌, ◌&&◌, List, [], ◌∷◌, ◌++◌, Option, None, Some, replicate, slice_index_or, slice_set, refl, sym, ◌∙◌, ap, subst, arith}
 use Rattle.std.specs.Option.{option_and_then}
 use Rattle.std.proofs.lemmas.Option.{none-some}
 use Rattle.edb_lang.specs.Syntax.{ModuleTree}
 use Rattle.edb_model.specs.Running.{Run}
-use Rattle.edb_model.specs.Move.{Next, begins, acts, pure, next, is_move, moved}
+use Rattle.edb_model.specs.Move.{next, is_move, moved}
 use Rattle.edb_model.specs.Plain.{Plain}
 use Rattle.edb_model.specs.Plain as model
 use Rattle.edb_model.specs.Labels.{Label, move, moved_in, step, steps}
 use Rattle.edb_event.specs.declared.entry.Entry.TheVariants as entry
-use Rattle.edb_rules.specs.Facts.{Handout, Debugged, debugged_at, with_debugged}
-use Rattle.edb_rules.specs.Slices.{SliceEnd, leaves, at_next, end_at, after_moves, has_body, IsSlice}
+use Rattle.edb_model.specs.Procs.{with_numbered}
+use Rattle.edb_rules.specs.Facts.{Handout, Debuggee, debuggee_at}
+use Rattle.edb_rules.specs.Slices.{SliceEnd, asked_to, after_moves, IsSlice}
 use Rattle.edb_rules.proofs.Journals.{steps_append}
+use Rattle.edb_world.proofs.Ends.{goes_move}
 use Rattle.edb_world.specs.declared.slices.Slice.{Slice}
 use Rattle.edb_world.specs.Known.{Known, noted, coming, running_at}
 use Rattle.edb_world.specs.Turns.{MakesSlice, IsSliceOf}
@@ -95,23 +97,23 @@ moves_are_steps code s p t (suc n) e h =
     ∙ (steps_append code s (doing s p (after_moves code s.versions n t)) (replicate n (move p)) (move p ∷ []) before
     ∙ ap (λ (o : Option Plain). option_and_then (λ (u : Plain). steps code u []) o) last)
 
--- where a slice doesn't end, a pure move is next
-next_goes : (h : Handout) (meta : Bool) (i : ℕ) (x : Next) → at_next h meta i x ≡ None → is_move x ≡ true
-next_goes h meta i (acts k) e = absurd (cc)
-next_goes h meta i (begins m l) e = refl
-next_goes h meta i pure e = refl
+-- so a slice is steps of a plain run
+pub slice_steps : (code : List ModuleTree) (s : Plain) (h : Handout) (p n c : ℕ) (t : Run) (end : SliceEnd) → model.running_at s p ≡ Some t → h.versions ≡ s.versions
+    → IsSlice code h p t n c end → steps code s (replicate n (move p)) ≡ Some (doing s p (after_moves code s.versions n t))
+slice_steps code s h p n c t end lives current slice =
+    moves_are_steps code s p t n lives
+    (λ i less. subst (λ (vs : List (List ℕ × ℕ)). is_move (next (after_moves code vs i t)) ≡ true) current
+    (goes_move code h p i (asked_to code h p t i) (after_moves code h.versions i t) (slice.goes i less)))
 
-not_left : (b : Bool) (o : Option SliceEnd) → (if b then Some leaves else o) ≡ None → o ≡ None
-not_left true o e = absurd (cc)
-not_left false o e = e
-
-pub goes_move : (h : Handout) (meta : Bool) (i : ℕ) (t : Run) → end_at h meta i t ≡ None → is_move (next t) ≡ true
-goes_move h meta i t e = next_goes h meta i (next t) (not_left (meta && not (has_body h.interpreted t)) (at_next h meta i (next t)) e)
+-- what is known of a process that made n moves
+abbrev pub ran_with : Debuggee → ℕ → Debuggee
+ran_with d n = record d { is_out = false; is_resumed = d.is_resumed && nat_eq n 0 }
 
 -- what is known once process p, which did t, made n moves
 abbrev pub ran : Known → ℕ → Run → ℕ → ℕ → Known
 ran k p t n w = record k {
-  facts = record (with_debugged k.facts p (record (debugged_at k.facts p) { out = false; resumed = (debugged_at k.facts p).resumed && nat_eq n 0 })) {
+  facts = record k.facts {
+    debuggees = with_numbered k.facts.debuggees p (ran_with (debuggee_at k.facts p) n);
     plain = doing k.facts.plain p (after_moves k.plan.code k.facts.plain.versions n t);
     coming = [];
     weight = w;
@@ -119,64 +121,59 @@ ran k p t n w = record k {
 }
 
 pub ran_noted : (k : Known) (p : ℕ) (t : Run) (n w : ℕ) (end : SliceEnd) → running_at k p ≡ Some t
-    → IsSlice k.plan.code k.facts.plain.versions (debugged_at k.facts p).taken (debugged_at k.facts p).meta t n end
+    → (debuggee_at k.facts p).handout.versions ≡ k.facts.plain.versions → k.facts.is_over ≡ false
+    → IsSlice k.plan.code (debuggee_at k.facts p).handout p t n 0 end
     → w ≡ k.facts.weight + max 1 (n + 0)
     → ran k p t n w ≡ coming [] (noted k (entry.Ran p n 0))
-ran_noted k zero t n w end lives slice heavier = absurd (none-some t lives)
-ran_noted k (suc m) t n w end lives slice heavier =
-    rw (
-      heavier,
-      moves_are_steps k.plan.code k.facts.plain (suc m) t n lives
-          (λ i lt. goes_move (debugged_at k.facts (suc m)).taken (debugged_at k.facts (suc m)).meta i (after_moves k.plan.code k.facts.plain.versions i t) (slice.goes i lt)),
-    )
-    refl
-
--- a slice of what is leased
-pub slice_of : (k new : Known) (p : ℕ) (t : Run) (s : Slice) (w : ℕ) → running_at k p ≡ Some t
-    → MakesSlice k.plan.code k.facts.plain.versions (debugged_at k.facts p) t s
-    → w ≡ k.facts.weight + max 1 (s.moves + 0) → new ≡ ran k p t s.moves w → IsSliceOf k new p s
-slice_of k new p t s w lives made heavier is = record {
-  running = t;
-  lives = lives;
-  end = made.0;
-  slice = made.1;
-  stop = made.2;
-  state = is ∙ ran_noted k p t s.moves w made.0 lives made.1 heavier;
-}
-
-pub some_of : (o : Option Run) → IsSome o → (t : Run) × (o ≡ Some t)
-some_of None h = absurd (cc)
-some_of (Some t) h = (t, refl)
+ran_noted k p t n w end lives current open_ slice heavier =
+    rw (heavier, slice_steps k.plan.code k.facts.plain (debuggee_at k.facts p).handout p n 0 t end lives current slice, open_) refl
 
 -- the same by what stands at the process's place: what it is before and after, and what is known of it
-placed : (k : Known) (p : ℕ) (q : Option Run) (d : Debugged) (w : ℕ) → 1 ≤ p
+placed : (k : Known) (p : ℕ) (q : Option Run) (d : Debuggee) (w : ℕ) → 1 ≤ p
     → record k {
       facts = record k.facts {
-        debugged = slice_set k.facts.debugged (p - 1) d;
+        debuggees = slice_set k.facts.debuggees (p - 1) d;
         plain = record k.facts.plain { running = slice_set k.facts.plain.running (p - 1) q };
         coming = [];
         weight = w;
       };
     }
-    ≡ record k { facts = record (with_debugged k.facts p d) { plain = model.with_running k.facts.plain p q; coming = []; weight = w } }
-placed k zero q d w some = absurd (omega arith)
+    ≡ record k { facts = record k.facts { debuggees = with_numbered k.facts.debuggees p d; plain = model.with_running k.facts.plain p q; coming = []; weight = w } }
+placed k zero q d w some = absurd (omega (arith, some))
 placed k (suc n) q d w some = let e : suc n - 1 ≡ n = omega arith in rw e refl
 
-pub slice_at : (k new : Known) (p : ℕ) (t : Run) (s : Slice) (w : ℕ) (code : List ModuleTree) (versions : List (List ℕ × ℕ)) (q r : Option Run) (d e : Debugged)
-    → 1 ≤ p → model.running_at k.facts.plain p ≡ q → debugged_at k.facts p ≡ d → code ≡ k.plan.code → versions ≡ k.facts.plain.versions
-    → running_at k p ≡ Some t → MakesSlice code versions d t s
-    → r ≡ Some (after_moves code versions s.moves t)
-    → e ≡ record d { out = false; resumed = d.resumed && nat_eq s.moves 0 }
+pub slice_at : (k new : Known) (p : ℕ) (t : Run) (s : Slice) (w : ℕ) (code : List ModuleTree) (d e : Debuggee) (r : Option Run)
+    → 1 ≤ p → running_at k p ≡ Some t → debuggee_at k.facts p ≡ d → code ≡ k.plan.code → (debuggee_at k.facts p).handout.versions ≡ k.facts.plain.versions
+    → k.facts.is_over ≡ false → MakesSlice code d.handout p t s
+    → r ≡ Some (after_moves code d.handout.versions s.moves t)
+    → e ≡ ran_with d s.moves
     → w ≡ k.facts.weight + max 1 (s.moves + 0)
     → new ≡ record k {
       facts = record k.facts {
-        debugged = slice_set k.facts.debugged (p - 1) e;
+        debuggees = slice_set k.facts.debuggees (p - 1) e;
         plain = record k.facts.plain { running = slice_set k.facts.plain.running (p - 1) r };
         coming = [];
         weight = w;
       };
     }
     → IsSliceOf k new p s
-slice_at k new p t s w code versions q r d e some live known codes_ versions_ lives made process debuggee heavier is =
-    slice_of k new p t s w lives (rw (← codes_, ← versions_, known) made) heavier
-    (is ∙ (placed k p r e w some ∙ rw (process, debuggee, known, codes_, versions_) refl))
+slice_at k new p t s w code d e r some lives known code_is current open_ made process debuggee heavier is =
+    let made_here : MakesSlice k.plan.code (debuggee_at k.facts p).handout p t s = rw (← code_is, known) made in
+    let process_here : r ≡ Some (after_moves k.plan.code k.facts.plain.versions s.moves t)
+    = process
+    ∙ (ap (λ (x : Debuggee). Some (after_moves code x.handout.versions s.moves t)) (sym known)
+    ∙ (ap (λ (vs : List (List ℕ × ℕ)). Some (after_moves code vs s.moves t)) current
+    ∙ ap (λ (c : List ModuleTree). Some (after_moves c k.facts.plain.versions s.moves t)) code_is)) in
+    let debuggee_here : e ≡ ran_with (debuggee_at k.facts p) s.moves = debuggee ∙ ap (λ (x : Debuggee). ran_with x s.moves) (sym known) in
+    record {
+      running = t;
+      lives = lives;
+      end = made_here.0;
+      slice = made_here.1;
+      told = made_here.2;
+      state = is
+          ∙ (placed k p r e w some
+          ∙ (ap (λ (q : Option Run). record k { facts = record k.facts { debuggees = with_numbered k.facts.debuggees p e; plain = model.with_running k.facts.plain p q; coming = []; weight = w } }) process_here
+          ∙ (ap (λ (x : Debuggee). record k { facts = record k.facts { debuggees = with_numbered k.facts.debuggees p x; plain = doing k.facts.plain p (after_moves k.plan.code k.facts.plain.versions s.moves t); coming = []; weight = w } }) debuggee_here
+          ∙ ran_noted k p t s.moves w made_here.0 lives current open_ made_here.1 heavier)));
+    }

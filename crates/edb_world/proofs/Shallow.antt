@@ -1,6 +1,6 @@
 -- In a legal journal no Body's level is above the weight.
 
-use Rattle.std.proofs.Common.{◌≡◌, ℕ, zero, suc, ◌+◌, ◌≤◌, nat_lt, List, [], ◌∷◌, ◌++◌, length, Option, None, Some, refl, sym, ◌∙◌, subst, arith}
+use Rattle.std.proofs.Common.{◌≡◌, ℕ, zero, suc, ◌+◌, ◌≤◌, nat_lt, List, [], ◌∷◌, length, Option, None, Some, refl, sym, ◌∙◌, subst, arith}
 use Rattle.std.specs.List.{All}
 use Rattle.std.proofs.lemmas.List.{length-replicate}
 use Rattle.std.proofs.lemmas.List.Elements.{All-nil, All-push, All-set, All-weaker}
@@ -27,7 +27,7 @@ use Rattle.edb_rules.specs.Notes.{note, facts}
 use Rattle.edb_rules.specs.Legal.{May, Legal}
 use Rattle.edb_rules.proofs.Entries.{kept_from}
 use Rattle.edb_rules.proofs.Kept.{note_is}
-use Rattle.edb_rules.proofs.Known.{each_or}
+use Rattle.edb_rules.proofs.Listed.{each_or}
 
 -- what a process has to do has no level above this
 abbrev IsShallow : ℕ → Option Run → Type 0

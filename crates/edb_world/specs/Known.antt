@@ -5,12 +5,12 @@ use Rattle.edb_model.specs.Running.{Run}
 use Rattle.edb_model.specs.Plain as model
 use Rattle.edb_model.specs.Procs.{most_processes}
 use Rattle.edb_event.specs.declared.call.Call.{Call}
-use Rattle.edb_event.specs.declared.call.Call.TheVariants as call
+use Rattle.edb_event.specs.declared.call.Call.TheVariants as command
 use Rattle.edb_event.specs.declared.entry.Entry.{Entry}
 use Rattle.edb_event.specs.declared.entry.Entry.TheVariants as entry
 use Rattle.edb_breaks.specs.Table.{Table, has_row}
 use Rattle.edb_rules.specs.Plans.{Plan}
-use Rattle.edb_rules.specs.Facts.{Owed, Facts, at_first}
+use Rattle.edb_rules.specs.Facts.{OwedTrigger, Facts, at_first}
 use Rattle.edb_rules.specs.Replies.{reply_to}
 use Rattle.edb_rules.specs.Notes.{note}
 
@@ -36,16 +36,16 @@ running_at k p = (model.running_at k.facts.plain p)
 
 -- the budget of a lease: the lesser of a slice and of what is left of the weight after it
 abbrev pub budget_of : Known → ℕ
-budget_of k = min k.plan.slice (k.plan.most - (k.facts.weight + 1))
+budget_of k = min k.plan.slice_moves (k.plan.weight_limit - (k.facts.weight + 1))
 
 -- the entry of an enabled command: a start that is accepted has its own, every other one is served
 abbrev pub command_entry : Known → Call → Entry
-command_entry k (call.Start m n args) =
+command_entry k (command.Start m n args) =
     if nat_lt (length k.facts.plain.running) most_processes
     then entry.Start 1 (length k.facts.plain.running + 1) m n args
-    else entry.Served 1 (call.Start m n args) (reply_to k.plan k.facts 1 (call.Start m n args))
+    else entry.Served 1 (command.Start m n args) (reply_to k.plan k.facts 1 (command.Start m n args))
 command_entry k x = entry.Served 1 x (reply_to k.plan k.facts 1 x)
 
--- the entry of the trigger that is owed: it is applied where the table still has the row
-abbrev pub trigger_entry : Table → Owed → Entry
-trigger_entry t o = entry.Trigger o.process o.home o.line o.serial o.action (has_row o.serial o.home o.line t)
+-- the entry of a trigger that process p owes: it is applied where the table still has the row
+abbrev pub trigger_entry : Table → ℕ → OwedTrigger → Entry
+trigger_entry t p o = entry.Trigger p o.home o.line o.serial o.action (has_row o.serial o.home o.line t)

@@ -3,7 +3,6 @@
 use Rattle.std.specs.Prelude.{◌≡◌, Bool, true, false, List}
 use Rattle.edb_event.specs.declared.entry.Entry.{Entry}
 use Rattle.edb_model.specs.Plain.{tables_of}
-use Rattle.edb_model.specs.Plain as model
 use Rattle.edb_rules.specs.Plans.{Plan}
 use Rattle.edb_rules.specs.Notes.{facts}
 use Rattle.edb_rules.specs.Legal.{Legal, IsOneHanded, IsDone, IsLimit}

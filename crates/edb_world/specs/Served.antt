@@ -1,40 +1,50 @@
 -- What serving a command changes.
 
-use Rattle.std.specs.Prelude.{ℕ, ◌+◌, ◌<◌, ◌≤◌, if◌then◌else◌, List, length, [], ◌∷◌, ◌++◌}
-use Rattle.edb_breaks.specs.Table.{with_row}
+use Rattle.std.specs.Prelude.{ℕ, ◌+◌, ◌<◌, ◌≤◌, length, [], ◌∷◌, ◌++◌}
 use Rattle.edb_model.specs.Running.{Run}
-use Rattle.edb_model.specs.Plain.{Plain}
 use Rattle.edb_model.specs.Plain as model
+use Rattle.edb_model.specs.Procs.{with_numbered}
+use Rattle.edb_event.specs.Books.{commands_of}
 use Rattle.edb_event.specs.declared.call.Call.{Call}
-use Rattle.edb_rules.specs.Facts.{Server, unseen, is_among}
-use Rattle.edb_rules.specs.Replies.{served}
+use Rattle.edb_event.specs.declared.call.Call.TheVariants as command
+use Rattle.edb_rules.specs.Facts.{Console, unseen, debuggee_at, console_at}
+use Rattle.edb_rules.specs.Replies.{server_by}
+use Rattle.edb_rules.specs.Orders.{order_of, ordered_process, with_order}
 use Rattle.edb_world.specs.Known.{Known}
 
--- the server with a module that is interpreted; as it is where it is interpreted already
-abbrev pub with_module : List ℕ → Server → Server
-with_module m s = record s { interpreted = if is_among m s.interpreted then s.interpreted else s.interpreted ++ m ∷ [] }
+-- one command more of console 1 was served, which weighs one
+abbrev pub one_more : Console → Console
+one_more c = record c { served = c.served + 1 }
 
--- the server with a new breakpoint at a line of a module
-abbrev pub with_breakpoint : List ℕ → ℕ → Server → Server
-with_breakpoint m l s = record s { table = with_row m l s.table }
-
--- the server with this console attached to process p
-abbrev pub with_console : ℕ → ℕ → Server → Server
-with_console p c s = record s { attached = s.attached ++ (p, c) ∷ [] }
-
--- one command more was served, which weighs one
 abbrev pub counted : Known → Known
-counted k = record k { facts = record k.facts { served = k.facts.served + 1; weight = k.facts.weight + 1 } }
+counted k =
+    record k { facts = record k.facts { consoles = with_numbered k.facts.consoles 1 (one_more (console_at k.facts 1)); weight = k.facts.weight + 1 } }
 
 -- The command that was counted last is one of those that are given, and no serial was given for it yet.
 pub record IsCounted (k : Known) : Type 0 where
-  pub within : k.facts.served ≤ length k.plan.commands
-  pub unused : k.facts.server.table.given < k.facts.served
+  pub within : (console_at k.facts 1).served ≤ length (commands_of 1 k.plan.commands)
+  pub unused : k.facts.server.table.given < (console_at k.facts 1).served
 
--- what a command of the console that isn't refused does
+-- the process of the last await
+abbrev pub last_by : Call → ℕ → ℕ
+last_by (command.Await p s) q = p
+last_by _ q = q
+
+abbrev pub awaited : Call → Console → Console
+awaited x c = record c { last = last_by x c.last }
+
+-- what a command of the console that isn't refused does: to the server, to the process that it orders to go on, and to the
+-- console's last await
 abbrev pub served_known : Known → Call → Known
-served_known k x = record k { facts = served k.facts 1 x }
+served_known k x =
+    record k {
+      facts = record k.facts {
+        server = server_by 1 x k.facts.server;
+        debuggees = with_numbered k.facts.debuggees (ordered_process x) (with_order (order_of k.facts.plain x) (debuggee_at k.facts (ordered_process x)));
+        consoles = with_numbered k.facts.consoles 1 (awaited x (console_at k.facts 1));
+      };
+    }
 
 -- with one process more, which does this next, and of which the debugger knows nothing
 abbrev pub with_newborn : Known → Run → Known
-with_newborn k t = record k { facts = record k.facts { plain = model.with_newborn k.facts.plain t; debugged = k.facts.debugged ++ unseen ∷ [] } }
+with_newborn k t = record k { facts = record k.facts { plain = model.with_newborn k.facts.plain t; debuggees = k.facts.debuggees ++ unseen ∷ [] } }

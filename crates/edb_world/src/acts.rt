@@ -2,12 +2,11 @@
 
 ghost use Rattle.std.specs.Prelude.{◌≡◌, ◌<◌, ◌+◌, ◌^◌, Some, IfOk};
 ghost use Rattle.edb_lang.specs.declared.act.ActKind.TheVariants as kind;
-ghost use Rattle.edb_model.specs.Running.{Run};
-ghost use Rattle.edb_model.specs.Move.{next, acts};
-ghost use Rattle.edb_world.specs.Known.{noted, running_at};
-ghost use Rattle.edb_world.specs.Turns.{act_entry};
-ghost use Rattle.edb_model.specs.Acts.{true_term};
-ghost use Rattle.edb_rules.specs.Legal.{IsReady, printed_by};
+ghost use Rattle.edb_model.specs.Move.{next, acts, redex};
+ghost use Rattle.edb_model.specs.Acts.{displayed, true_term};
+ghost use Rattle.edb_rules.specs.Turns.{Act, does, turn_of};
+ghost use Rattle.edb_world.specs.Known.{noted};
+ghost use Rattle.edb_world.specs.Turns.{IsActing, act_entry};
 
 use crate::state::State;
 use edb_eval::Process;
@@ -19,7 +18,7 @@ use std::alloc::{AllocError, Global};
 /// What a display prints: the text of its operand, and a newline.
 fn printed(alloc: Global, process: &Process<'_>) -> Result<Bytes, AllocError>
     requires { next process.now ≡ acts kind.Print }
-    ensures { IfOk result (λ bytes. bytes ≡ printed_by kind.Print process.now) }
+    ensures { IfOk result (λ bytes. bytes ≡ displayed (redex process.now).1) }
 {
     let operand = process.operand(alloc)?;
     let mut bytes = term_text(alloc, &operand)?;
@@ -35,20 +34,35 @@ fn display_answer(alloc: Global) -> Result<Term, AllocError>
 }
 
 impl<'a> State<'a> {
-    /// Lets a process print. Where memory is refused the output may have grown.
-    pub(crate) fn print(&mut self, pid: u32) -> Result<Entry, AllocError>
-        requires ready { IsReady self.old.facts pid }
-        requires is { (t : Run) → running_at self.old pid ≡ Some t → next t ≡ acts kind.Print }
+    /// Lets a process make the act that is next for it, which is of this kind. Where memory is refused the output may
+    /// have grown.
+    pub(crate) fn act(&mut self, pid: u32, kind: ActKind) -> Result<Entry, AllocError>
+        requires acting { IsActing self.old.facts pid kind }
         requires fits { self.old.facts.weight + 1 < 2 ^ 32 }
-        ensures entry { IfOk result (λ e. (t : Run) → running_at self.old pid ≡ Some t → e ≡ act_entry pid kind.Print t) }
+        ensures entry { IfOk result (λ e. (a : Act) → turn_of self.old.facts pid ≡ Some (does a) → e ≡ act_entry pid a) }
+        ensures state { IfOk result (λ e. self.new ≡ noted self.old e) }
+    {
+        match kind {
+            ActKind::Print => self.print(pid),
+            _ => self.end(pid),
+        }
+    }
+
+    /// Lets a process print. Where memory is refused the output may have grown.
+    fn print(&mut self, pid: u32) -> Result<Entry, AllocError>
+        requires acting { IsActing self.old.facts pid kind.Print }
+        requires fits { self.old.facts.weight + 1 < 2 ^ 32 }
+        ensures entry { IfOk result (λ e. (a : Act) → turn_of self.old.facts pid ≡ Some (does a) → e ≡ act_entry pid a) }
         ensures state { IfOk result (λ e. self.new ≡ noted self.old e) }
     {
         let alloc = self.alloc;
+        let place = (pid - 1) as usize;
         let printed = printed(alloc, self.running(pid))?;
         let answer = display_answer(alloc)?;
         let value = term_text(alloc, &answer)?;
         self.output.extend(printed.as_slice())?;
-        self.processes[(pid - 1) as usize].answer(alloc, answer)?;
+        self.processes[place].answer(alloc, answer)?;
+        self.debuggees[place].print();
         self.turn = pid;
         self.weight += 1;
         Ok(Entry::Did {
@@ -60,11 +74,10 @@ impl<'a> State<'a> {
     }
 
     /// Lets a process end.
-    pub(crate) fn end(&mut self, pid: u32) -> Result<Entry, AllocError>
-        requires ready { IsReady self.old.facts pid }
-        requires is { (t : Run) → running_at self.old pid ≡ Some t → next t ≡ acts kind.End }
+    fn end(&mut self, pid: u32) -> Result<Entry, AllocError>
+        requires acting { IsActing self.old.facts pid kind.End }
         requires fits { self.old.facts.weight + 1 < 2 ^ 32 }
-        ensures entry { IfOk result (λ e. (t : Run) → running_at self.old pid ≡ Some t → e ≡ act_entry pid kind.End t) }
+        ensures entry { IfOk result (λ e. (a : Act) → turn_of self.old.facts pid ≡ Some (does a) → e ≡ act_entry pid a) }
         ensures state { IfOk result (λ e. self.new ≡ noted self.old e) }
     {
         let place = (pid - 1) as usize;

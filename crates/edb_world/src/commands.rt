@@ -3,25 +3,41 @@
 ghost use Rattle.std.specs.Prelude.{◌≡◌, ◌<◌, ◌≤◌, ◌+◌, ◌^◌, true, length, None, IfOk, OnOk};
 ghost use Rattle.edb_breaks.specs.Table.{row_at};
 ghost use Rattle.edb_lang.specs.Terms.{elements};
+ghost use Rattle.edb_event.specs.Books.{commands_of};
 ghost use Rattle.edb_event.specs.declared.call.Call.TheVariants as call;
 ghost use Rattle.edb_event.specs.declared.call.Word.TheVariants as word;
 ghost use Rattle.edb_event.specs.declared.entry.Entry.TheVariants as entry;
 ghost use Rattle.edb_event.specs.declared.reply.Reply.TheVariants as reply;
 ghost use Rattle.edb_rules.specs.Replies as rules;
-ghost use Rattle.edb_rules.specs.Replies.{next_call, is_enabled, has_status, process_of, refused, reply_to};
+ghost use Rattle.edb_rules.specs.Facts.{console_at};
+ghost use Rattle.edb_rules.specs.Replies.{next_call, is_enabled, is_served, has_status, process_of, refused, reply_to};
+ghost use Rattle.edb_rules.specs.Ranks.{AtCommand};
 ghost use Rattle.edb_world.specs.Known.{noted, command_entry};
 ghost use Rattle.edb_world.specs.Served.{IsCounted, counted, served_known, with_newborn};
+ghost use Rattle.edb_world.specs.Ranks.{IsNextCommand};
 
 use crate::debuggee::Debuggee;
 use crate::live::{Live, Member};
 use crate::state::State;
 use edb_eval::Process;
 use edb_event::{Call, Entry, ProcStatus, Reply, Word};
+use edb_frames::Mode;
 use edb_lang::{Name, Node, Term};
 use std::alloc::{AllocError, Global};
 
 /// The most processes that are ever made.
 pub(crate) const MOST_PROCESSES: usize = 65_536;
+
+/// What the console's next command asks for.
+#[derive(Drop)]
+pub(crate) enum NextCommand {
+    /// It is enabled, so it is to be served.
+    Enabled(Call),
+    /// It isn't enabled, so it waits.
+    Waits(Call),
+    /// All were answered.
+    Through,
+}
 
 /// A command about this process.
 fn about(call: Call, pid: u32) -> Call
@@ -61,7 +77,7 @@ fn elements_of(alloc: Global, list: &Term) -> Result<Vec<Term>, AllocError>
 impl<'a> State<'a> {
     /// The process that a word names; 0 where it names none.
     fn process_of(&self, word: &Word) -> u32
-        ensures { result ≡ process_of self.now.facts word.now }
+        ensures { result ≡ process_of self.now.facts 1 word.now }
     {
         match word {
             Word::Absent => 0,
@@ -74,7 +90,7 @@ impl<'a> State<'a> {
 
     /// The process of the console's own start with this number, counted from 1; 0 where there is none.
     fn own_process(&self, place: u32) -> u32
-        ensures { result ≡ process_of self.now.facts (word.Own place) }
+        ensures { result ≡ process_of self.now.facts 1 (word.Own place) }
     {
         if place == 0 {
             return 0;
@@ -86,8 +102,8 @@ impl<'a> State<'a> {
     }
 
     /// The console's next command, its word found to be a process; none once all were served.
-    pub(crate) fn next_call(&self) -> Result<Option<Call>, AllocError>
-        ensures { IfOk result (λ found. found ≡ next_call self.now.plan self.now.facts) }
+    fn next_call(&self) -> Result<Option<Call>, AllocError>
+        ensures { IfOk result (λ found. found ≡ next_call self.now.plan self.now.facts 1) }
     {
         match self.commands.get(self.served) {
             None => Ok(None),
@@ -106,7 +122,7 @@ impl<'a> State<'a> {
     }
 
     /// Whether a command is enabled: an await where its process has the status, and every other one.
-    pub(crate) fn is_enabled(&self, call: &Call) -> bool
+    fn is_enabled(&self, call: &Call) -> bool
         ensures { result ≡ is_enabled self.now.facts call.now }
     {
         match call {
@@ -115,9 +131,27 @@ impl<'a> State<'a> {
         }
     }
 
+    /// What the console's next command asks for.
+    pub(crate) fn next_command(&self) -> Result<NextCommand, AllocError>
+        requires at { AtCommand self.now.plan self.now.facts }
+        ensures { IfOk result (λ found. IsNextCommand self.now.plan self.now.facts found) }
+    {
+        let _ = &self.commands;
+        match self.next_call()? {
+            None => Ok(NextCommand::Through),
+            Some(call) => {
+                if self.is_enabled(&call) {
+                    return Ok(NextCommand::Enabled(call));
+                }
+                Ok(NextCommand::Waits(call))
+            }
+        }
+    }
+
     /// Serves a command as one that is enabled, or starts its process.
     pub(crate) fn answer(&mut self, call: Call) -> Result<Entry, AllocError>
-        requires left { self.old.facts.served < length self.old.plan.commands }
+        requires known { is_served call ≡ true }
+        requires left { (console_at self.old.facts 1).served < length (commands_of 1 self.old.plan.commands) }
         requires fits { self.old.facts.weight + 1 < 2 ^ 32 }
         ensures entry { IfOk result (λ e. e ≡ command_entry self.old call) }
         ensures state { IfOk result (λ e. self.new ≡ noted self.old e) }
@@ -134,7 +168,7 @@ impl<'a> State<'a> {
 
     /// Starts a process.
     fn start(&mut self, module: Name, name: Name, args: Term) -> Result<Entry, AllocError>
-        requires left { self.old.facts.served < length self.old.plan.commands }
+        requires left { (console_at self.old.facts 1).served < length (commands_of 1 self.old.plan.commands) }
         requires few { length self.old.facts.plain.running < 65536 }
         requires fits { self.old.facts.weight + 1 < 2 ^ 32 }
         ensures entry { IfOk result (λ e.
@@ -171,7 +205,7 @@ impl<'a> State<'a> {
 
     /// Counts a command as served.
     fn count(&mut self)
-        requires left { self.old.facts.served < length self.old.plan.commands }
+        requires left { (console_at self.old.facts 1).served < length (commands_of 1 self.old.plan.commands) }
         requires fits { self.old.facts.weight + 1 < 2 ^ 32 }
         ensures state { self.new ≡ counted self.old }
         ensures is_counted { IsCounted self.new }
@@ -182,7 +216,8 @@ impl<'a> State<'a> {
 
     /// Serves an enabled command, which isn't a start that is accepted.
     fn serve(&mut self, call: Call) -> Result<Entry, AllocError>
-        requires left { self.old.facts.served < length self.old.plan.commands }
+        requires known { is_served call ≡ true }
+        requires left { (console_at self.old.facts 1).served < length (commands_of 1 self.old.plan.commands) }
         requires fits { self.old.facts.weight + 1 < 2 ^ 32 }
         ensures entry { IfOk result (λ e. e ≡ entry.Served 1 call (reply_to self.old.plan self.old.facts 1 call)) }
         ensures state { IfOk result (λ e. self.new ≡ noted self.old e) }
@@ -207,6 +242,7 @@ impl<'a> State<'a> {
 
     /// Does what a command that isn't refused does, once it is counted.
     fn change(&mut self, call: &Call) -> Result<(), AllocError>
+        requires known { is_served call.now ≡ true }
         requires allowed { refused self.old.plan self.old.facts 1 call.now ≡ None }
         requires counted { IsCounted self.old }
         ensures { OnOk result (self.new ≡ served_known self.old call.now) }
@@ -259,12 +295,13 @@ impl<'a> State<'a> {
         requires made { (1 ≤ pid) × (pid ≤ length self.old.facts.plain.running) }
         ensures { self.new ≡ served_known self.old (call.Continue pid) }
     {
-        self.debuggees[(pid - 1) as usize].stopped = false;
+        self.debuggees[(pid - 1) as usize].resume(Mode::Run);
     }
 
     /// Answers a command that nothing enables any more.
     pub(crate) fn answer_quiet(&mut self, call: Call) -> Entry
-        requires left { self.old.facts.served < length self.old.plan.commands }
+        requires known { is_served call ≡ true }
+        requires left { (console_at self.old.facts 1).served < length (commands_of 1 self.old.plan.commands) }
         requires fits { self.old.facts.weight + 1 < 2 ^ 32 }
         ensures entry { result ≡ entry.Served 1 call reply.Quiet }
         ensures state { self.new ≡ noted self.old result }

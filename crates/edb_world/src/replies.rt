@@ -1,10 +1,10 @@
 //! What the server replies.
 
 ghost use Rattle.std.specs.Option.{option_copied};
-ghost use Rattle.std.specs.Prelude.{◌≡◌, ◌++◌, ◌∷◌, [], codes, unwrap_or, IfOk};
+ghost use Rattle.std.specs.Prelude.{◌≡◌, ◌++◌, ◌∷◌, [], codes, is_some, unwrap_or, IfOk};
 ghost use Rattle.edb_lang.specs.TermText.{term_text};
 ghost use Rattle.edb_event.specs.declared.call.Call.TheVariants as call;
-ghost use Rattle.edb_rules.specs.Facts.{debugged_at, unseen};
+ghost use Rattle.edb_rules.specs.Facts.{debuggee_at, unseen};
 ghost use Rattle.edb_rules.specs.Replies as rules;
 
 use crate::commands::MOST_PROCESSES;
@@ -57,8 +57,8 @@ impl<'a> State<'a> {
     }
 
     /// What the debugger knows of a process, where one with this number was made.
-    fn debuggee(&self, pid: u32) -> Option<&Debuggee>
-        ensures { unwrap_or (option_copied result) unseen ≡ debugged_at self.now.facts pid }
+    fn debuggee(&self, pid: u32) -> Option<&Debuggee<'a>>
+        ensures { unwrap_or (option_copied result) unseen ≡ debuggee_at self.now.facts pid }
     {
         if pid == 0 {
             return None;
@@ -67,21 +67,31 @@ impl<'a> State<'a> {
     }
 
     /// Whether a meta process interprets a process.
-    fn has_meta(&self, pid: u32) -> bool
-        ensures { result ≡ (debugged_at self.now.facts pid).meta }
+    fn is_interpreted(&self, pid: u32) -> bool
+        ensures { result ≡ (debuggee_at self.now.facts pid).is_interpreted }
     {
         match self.debuggee(pid) {
-            Some(debuggee) => debuggee.meta,
+            Some(debuggee) => debuggee.is_interpreted,
             None => false,
         }
     }
 
     /// Whether a process is stopped.
     fn is_stopped(&self, pid: u32) -> bool
-        ensures { result ≡ (debugged_at self.now.facts pid).stopped }
+        ensures { result ≡ (debuggee_at self.now.facts pid).is_stopped }
     {
         match self.debuggee(pid) {
-            Some(debuggee) => debuggee.stopped,
+            Some(debuggee) => debuggee.is_stopped,
+            None => false,
+        }
+    }
+
+    /// Whether a process owes a trigger.
+    pub(crate) fn is_owing(&self, pid: u32) -> bool
+        ensures { result ≡ is_some (debuggee_at self.now.facts pid).owed }
+    {
+        match self.debuggee(pid) {
+            Some(debuggee) => debuggee.owed.is_some(),
             None => false,
         }
     }
@@ -96,7 +106,7 @@ impl<'a> State<'a> {
         if self.is_stopped(pid) {
             return ProcStatus::Break;
         }
-        if self.has_meta(pid) {
+        if self.is_interpreted(pid) {
             return ProcStatus::Running;
         }
         ProcStatus::Idle
@@ -110,7 +120,7 @@ impl<'a> State<'a> {
         if !self.is_made(pid) {
             return Some(Refusal::NoProcess);
         }
-        if !self.has_meta(pid) || self.is_ended(pid) {
+        if !self.is_interpreted(pid) || self.is_ended(pid) {
             return Some(Refusal::NotInterpreted);
         }
         None

@@ -1,18 +1,18 @@
 //! The interpreter server: the table of breakpoints, the interpreted modules, and which console is
 //! attached to which process.
 
-ghost use Rattle.std.specs.Prelude.{◌≡◌, ◌<◌, ◌^◌, [], None, IfOk, OnOk, OnErr};
-ghost use Rattle.edb_breaks.specs.Table.{empty_table, row_at};
-ghost use Rattle.edb_rules.specs.Facts.{is_among};
-ghost use Rattle.edb_rules.specs.Replies.{console_of, is_console_of};
-ghost use Rattle.edb_world.specs.Served.{with_module, with_breakpoint, with_console};
+ghost use Rattle.std.specs.Prelude.{◌≡◌, ◌<◌, ◌^◌, None, IfOk, OnOk, OnErr};
+ghost use Rattle.edb_breaks.specs.Table.{row_at};
+ghost use Rattle.edb_rules.specs.Facts.{first_server, is_among};
+ghost use Rattle.edb_rules.specs.Replies.{console_of, is_console_of, server_by};
+ghost use Rattle.edb_event.specs.declared.call.Call.TheVariants as command;
 
 use edb_breaks::Breaks;
 use edb_lang::Name;
 use std::alloc::{AllocError, Global};
 use std::marker::Model;
 
-/// The server.
+/// The server. No command sets a flag yet.
 #[derive(Drop)]
 pub(crate) struct Interpreter {
     pub(crate) table: Breaks,
@@ -21,11 +21,12 @@ pub(crate) struct Interpreter {
 }
 
 impl Model for Interpreter {
+    ghost use Rattle.std.specs.Prelude.{[]};
     ghost use Rattle.edb_rules.specs.Facts.{Server};
 
     ghost Value = { Server };
 
-    ghost view = { λ s. record { table = s.table; interpreted = s.interpreted.items; attached = s.attached.items } };
+    ghost view = { λ s. record { table = s.table; interpreted = s.interpreted.items; flags = []; attached = s.attached.items } };
 }
 
 /// Equal names.
@@ -49,7 +50,7 @@ pub(crate) fn is_among(module: &Name, names: &[Name]) -> bool
 impl Interpreter {
     /// No breakpoint, no interpreted module, no console attached.
     pub(crate) fn new(alloc: Global) -> Interpreter
-        ensures { result ≡ record { table = empty_table; interpreted = []; attached = [] } }
+        ensures { result ≡ first_server }
     {
         Interpreter {
             table: Breaks::new(alloc),
@@ -83,7 +84,7 @@ impl Interpreter {
 impl Interpreter {
     /// Interprets a module; where it is interpreted already nothing changes.
     pub(crate) fn interpret(&mut self, alloc: Global, module: &Name) -> Result<(), AllocError>
-        ensures ok { OnOk result (self.new ≡ with_module «module».now self.old) }
+        ensures ok { OnOk result (self.new ≡ server_by 1 (command.Ii «module».now) self.old) }
         ensures err { OnErr result (self.new ≡ self.old) }
     {
         if is_among(module, &self.interpreted) {
@@ -97,7 +98,7 @@ impl Interpreter {
     pub(crate) fn break_at(&mut self, module: Name, line: u32) -> Result<(), AllocError>
         requires free { row_at «module» line self.old.table ≡ None }
         requires few { self.old.table.given < 2 ^ 127 }
-        ensures ok { OnOk result (self.new ≡ with_breakpoint «module» line self.old) }
+        ensures ok { OnOk result (self.new ≡ server_by 1 (command.Ib «module» line) self.old) }
         ensures err { OnErr result (self.new ≡ self.old) }
     {
         match self.table.add(module, line)? {
@@ -108,7 +109,7 @@ impl Interpreter {
 
     /// Attaches a console to a process.
     pub(crate) fn attach(&mut self, console: u32, pid: u32) -> Result<(), AllocError>
-        ensures ok { OnOk result (self.new ≡ with_console pid console self.old) }
+        ensures ok { OnOk result (self.new ≡ server_by console (command.Ia pid) self.old) }
         ensures err { OnErr result (self.new ≡ self.old) }
     {
         self.attached.push((pid, console))?;

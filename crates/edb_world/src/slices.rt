@@ -1,42 +1,44 @@
 //! Leases and slices: how far a process goes, what ends a slice, and the triggers that stops owe.
 
 ghost use Rattle.std.specs.Option.{option_map};
-ghost use Rattle.std.specs.Prelude.{◌≡◌, ◌<◌, ◌≤◌, ◌+◌, ◌^◌, None, Some, unwrap_or, IfOk, OnErr, IsSome, IsSomeAnd, MatchOption};
-ghost use Rattle.edb_lang.specs.declared.small.Break.{Break};
+ghost use Rattle.std.specs.Prelude.{◌≡◌, ◌<◌, ◌≤◌, ◌+◌, ◌^◌, ℕ, List, None, Some, IfOk, OnErr, IsSome, length};
+ghost use Rattle.edb_lang.specs.Syntax.{ModuleTree};
 ghost use Rattle.edb_model.specs.Innermost.{innermost};
 ghost use Rattle.edb_model.specs.Running.{Info, Run};
 ghost use Rattle.edb_model.specs.Lookup.{first_versions};
+ghost use Rattle.edb_model.specs.Move.{next};
+ghost use Rattle.edb_event.specs.declared.entry.Cause.TheVariants as cause;
 ghost use Rattle.edb_event.specs.declared.entry.Entry.TheVariants as entry;
 ghost use Rattle.edb_eval.specs.Levels.{highest};
-ghost use Rattle.edb_rules.specs.Facts.{debugged_at};
-ghost use Rattle.edb_rules.specs.Legal.{IsReady};
-ghost use Rattle.edb_breaks.specs.Table.{row_at};
-ghost use Rattle.edb_model.specs.Move.{next};
-ghost use Rattle.edb_rules.specs.Slices.{due, if_spent, at_begin, end_at, after_moves};
-ghost use Rattle.edb_rules.specs.Notes as note;
-ghost use Rattle.edb_rules.specs.Notes.{no_body, owed_for};
+ghost use Rattle.edb_rules.specs.Facts as facts;
+ghost use Rattle.edb_rules.specs.Facts.{debuggee_at};
+ghost use Rattle.edb_rules.specs.Slices as rules;
+ghost use Rattle.edb_rules.specs.Slices.{if_spent, at_begin, end_before, after_moves, level_in};
+ghost use Rattle.edb_rules.specs.SliceEnds as ends;
+ghost use Rattle.edb_rules.specs.SliceEnds.{cause_of};
+ghost use Rattle.edb_rules.specs.Notes.{handout_now, owed_by};
 ghost use Rattle.edb_world.specs.Known.{noted, budget_of, running_at, trigger_entry};
-ghost use Rattle.edb_world.specs.Turns.{IsSliceOf, IsStopAt, MakesSlice, IsEndNoted, stopped_by};
+ghost use Rattle.edb_world.specs.Turns.{holding, told_end, MakesSlice, IsSliceOf, IsEndNoted, IsLeastOwing, stopped_by};
 
-use crate::debuggee::{Debuggee, Taken, Trigger};
+use crate::debuggee::{Handout, OwedTrigger};
 use crate::live::Live;
 use crate::server::{copy_names, is_among};
 use crate::state::State;
 use edb_eval::{Kind, Process};
 use edb_event::{Cause, Entry};
-use edb_lang::{Action, Name, Status};
+use edb_frames::due as is_due;
+use edb_lang::{Action, Break, Name, Status};
 use edb_model::Code;
 use std::alloc::{AllocError, Global};
 
-/// How a slice ends: the process leaves interpreted code; a shared act is next; it comes to interpreted
-/// code, and stops there at the breakpoint of a serial, or doesn't; it stops; its budget is spent.
+/// How a slice ends: the process leaves interpreted code; a shared act is next; it comes to interpreted code, and stops
+/// there for a cause, or doesn't; it stops for a cause; its budget is spent.
 #[derive(Clone, Copy, PartialEq, Eq, Debug)]
-pub(crate) enum SliceStop {
+pub(crate) enum SliceEnd {
     Leaves,
     ActNext,
-    Enters,
-    EntersAndStops(u128),
-    Stops(u128),
+    Enters(Option<Cause>),
+    Stops(Cause),
     Spent,
 }
 
@@ -44,65 +46,92 @@ pub(crate) enum SliceStop {
 #[derive(Clone, Copy, PartialEq, Eq, Debug)]
 pub(crate) struct Slice {
     pub(crate) moves: u32,
-    pub(crate) stop: SliceStop,
+    pub(crate) end: SliceEnd,
 }
 
-/// The serial of the breakpoint that is due at a beginning at this module and line, after so many moves,
-/// by what a process took in.
-fn due_serial(taken: &Taken, moves: u32, module: &Name, line: u32) -> Option<u128>
-    ensures { result ≡ option_map (λ b. b.serial) (due taken.now moves «module».now line) }
+/// The cause of a stop at a breakpoint: it is active, and has no condition, as none holds yet.
+fn break_cause(row: &Break) -> Option<Cause>
+    ensures { (code : List ModuleTree) (h : facts.Handout) (p : ℕ) (t : Run) →
+        result ≡ option_map cause_of (holding code h p t (rules.if_active row.now)) }
 {
-    if !is_among(module, &taken.interpreted) || (taken.resumed && moves == 0) {
-        return None;
-    }
-    let row = taken.table.at(module, line)?;
     match row.status {
-        Status::Active => Some(row.serial),
+        Status::Active => match row.cond {
+            None => Some(Cause::Break(row.serial)),
+            Some(_) => None,
+        },
         Status::Inactive => None,
     }
 }
 
-/// The end of a slice whose budget is spent after so many moves.
-fn spent_stop(taken: &Taken, moves: u32) -> Option<SliceStop>
-    ensures { IsStopAt (if_spent taken.now moves) result }
+/// Why a beginning at this module and line is due after so many moves, by what a process took in.
+fn due(
+    handout: &Handout<'_>,
+    moves: u32,
+    process: &Process<'_>,
+    module: &Name,
+    line: u32,
+) -> Option<Cause>
+    ensures { (code : List ModuleTree) (p : ℕ) →
+        result ≡ option_map cause_of (rules.due code handout.now p moves process.now «module».now line) }
 {
-    if moves >= 1 && moves >= taken.budget {
-        return Some(SliceStop::Spent);
+    if !is_among(module, &handout.modules) || (handout.is_resumed && moves == 0) {
+        return None;
+    }
+    if is_due(handout.slice_mode(), level_of(process), false) {
+        return Some(Cause::Order);
+    }
+    match handout.table.at(module, line) {
+        Some(row) => break_cause(row),
+        None => None,
+    }
+}
+
+/// The end of a slice whose budget is spent after so many moves.
+fn spent_end(handout: &Handout<'_>, moves: u32) -> Option<SliceEnd>
+    ensures { result ≡ option_map told_end (if_spent handout.now moves 0) }
+{
+    if moves >= 1 && moves >= handout.budget {
+        return Some(SliceEnd::Spent);
     }
     None
 }
 
 /// How a slice ends after so many moves where something begins at this module and line.
-fn begin_stop(debuggee: &Debuggee, moves: u32, module: &Name, line: u32) -> Option<SliceStop>
-    ensures { IsStopAt (at_begin debuggee.now.taken debuggee.now.meta moves «module».now line) result }
+fn begin_end(
+    handout: &Handout<'_>,
+    moves: u32,
+    process: &Process<'_>,
+    module: &Name,
+    line: u32,
+) -> Option<SliceEnd>
+    ensures { (code : List ModuleTree) (p : ℕ) → result ≡ option_map told_end
+        (at_begin handout.now moves 0 «module».now (rules.due code handout.now p moves process.now «module».now line)) }
 {
-    let due = due_serial(&debuggee.taken, moves, module, line);
-    if debuggee.meta {
+    let due = due(handout, moves, process, module, line);
+    if handout.is_interpreted {
         return match due {
-            Some(serial) => Some(SliceStop::Stops(serial)),
-            None => spent_stop(&debuggee.taken, moves),
+            Some(cause) => Some(SliceEnd::Stops(cause)),
+            None => spent_end(handout, moves),
         };
     }
-    if !is_among(module, &debuggee.taken.interpreted) {
-        return spent_stop(&debuggee.taken, moves);
+    if is_among(module, &handout.modules) {
+        return Some(SliceEnd::Enters(due));
     }
-    match due {
-        Some(serial) => Some(SliceStop::EntersAndStops(serial)),
-        None => Some(SliceStop::Enters),
-    }
+    spent_end(handout, moves)
 }
 
 /// How a slice ends after so many moves, where it does.
-fn stop_at(process: &Process<'_>, debuggee: &Debuggee, moves: u32) -> Option<SliceStop>
-    ensures { IsStopAt (end_at debuggee.now.taken debuggee.now.meta moves process.now) result }
+fn end_at(handout: &Handout<'_>, moves: u32, process: &Process<'_>) -> Option<SliceEnd>
+    ensures { (code : List ModuleTree) (p : ℕ) →
+        result ≡ option_map told_end (end_before code handout.now p moves 0 process.now) }
 {
-    if debuggee.meta && !process.is_inside(&debuggee.taken.interpreted) {
-        return Some(SliceStop::Leaves);
+    if handout.is_interpreted && !process.is_inside(&handout.modules) {
+        return Some(SliceEnd::Leaves);
     }
     match process.next_kind() {
-        Kind::Act(_) => Some(SliceStop::ActNext),
-        Kind::Begin { module, line } => begin_stop(debuggee, moves, module, line),
-        Kind::Pure => spent_stop(&debuggee.taken, moves),
+        Kind::Act(_) => Some(SliceEnd::ActNext),
+        Kind::Begin { module, line } => begin_end(handout, moves, process, module, line),
+        Kind::Pure => spent_end(handout, moves),
     }
 }
 
@@ -112,26 +141,24 @@ fn make_slice<'a>(
     process: &mut Process<'a>,
     alloc: Global,
     code: &'a Code,
-    debuggee: &Debuggee,
+    handout: &Handout<'a>,
 ) -> Result<Slice, AllocError>
-    requires some { 1 ≤ debuggee.now.taken.budget }
-    requires room { highest process.old + debuggee.now.taken.budget < 2 ^ 63 }
-    ensures slice { IfOk result (λ s. MakesSlice code.now (first_versions code.now) debuggee.now process.old s) }
-    ensures tree { IfOk result (λ s. process.new ≡ after_moves code.now (first_versions code.now) s.moves process.old) }
-    ensures bound { IfOk result (λ s. s.moves ≤ debuggee.now.taken.budget) }
+    requires versions { handout.now.versions ≡ first_versions code.now }
+    requires some { 1 ≤ handout.now.budget }
+    requires room { highest process.old + handout.now.budget < 2 ^ 63 }
+    ensures slice { IfOk result (λ s. (p : ℕ) → MakesSlice code.now handout.now p process.old s) }
+    ensures process { IfOk result (λ s. process.new ≡ after_moves code.now handout.now.versions s.moves process.old) }
+    ensures bound { IfOk result (λ s. s.moves ≤ handout.now.budget) }
 {
-    let budget = debuggee.taken.budget;
+    let budget = handout.budget;
     for moves in 0..budget {
-        if let Some(stop) = stop_at(process, debuggee, moves) {
-            return Ok(Slice { moves, stop });
+        if let Some(end) = end_at(handout, moves, process) {
+            return Ok(Slice { moves, end });
         }
         process.step(alloc, code)?;
     }
-    match stop_at(process, debuggee, budget) {
-        Some(stop) => Ok(Slice {
-            moves: budget,
-            stop,
-        }),
+    match end_at(handout, budget, process) {
+        Some(end) => Ok(Slice { moves: budget, end }),
         None => unreachable!(),
     }
 }
@@ -139,7 +166,7 @@ fn make_slice<'a>(
 /// The entry of a process that comes to interpreted code.
 fn enter_entry(alloc: Global, pid: u32, process: &Process<'_>) -> Result<Entry, AllocError>
     requires { (i : Info) → innermost process.now ≡ Some i → i.arity < 2 ^ 32 }
-    ensures { IfOk result (λ e. e ≡ note.enter_entry pid process.now) }
+    ensures { IfOk result (λ e. e ≡ ends.enter_entry pid process.now) }
 {
     let Some(body) = process.innermost() else {
         let module = Name::from_str(alloc, "")?;
@@ -161,14 +188,14 @@ fn enter_entry(alloc: Global, pid: u32, process: &Process<'_>) -> Result<Entry, 
     })
 }
 
-/// The entry of a process that stops at a breakpoint.
+/// The entry of a process that stops for a cause.
 fn stop_entry(
     alloc: Global,
     pid: u32,
     process: &Process<'_>,
-    serial: u128,
+    by: Cause,
 ) -> Result<Entry, AllocError>
-    ensures { IfOk result (λ e. e ≡ stopped_by pid serial process.now) }
+    ensures { IfOk result (λ e. e ≡ stopped_by pid by process.now) }
 {
     let level = level_of(process);
     let (module, line) = place_of(alloc, process)?;
@@ -177,13 +204,13 @@ fn stop_entry(
         module,
         line,
         level,
-        by: Cause::Break(serial),
+        by,
     })
 }
 
-/// The level of the innermost Body.
+/// The level of the innermost Body; 0 where there is none.
 fn level_of(process: &Process<'_>) -> u64
-    ensures { result ≡ (unwrap_or (innermost process.now) no_body).level }
+    ensures { result ≡ level_in process.now }
 {
     match process.innermost() {
         Some(body) => body.level,
@@ -193,7 +220,7 @@ fn level_of(process: &Process<'_>) -> u64
 
 /// The module and the line at which something begins.
 fn place_of(alloc: Global, process: &Process<'_>) -> Result<(Name, u32), AllocError>
-    ensures { IfOk result (λ place. place ≡ note.place_of (next process.now)) }
+    ensures { IfOk result (λ place. place ≡ ends.place_of (next process.now)) }
 {
     match process.next_kind() {
         Kind::Begin { module, line } => Ok((module.copy(alloc)?, line)),
@@ -205,18 +232,33 @@ fn place_of(alloc: Global, process: &Process<'_>) -> Result<(Name, u32), AllocEr
 /// The trigger that a stop owes: what the row that was taken in says.
 fn owed_trigger(
     alloc: Global,
-    pid: u32,
+    process: &Process<'_>,
+    by: Cause,
+    handout: &Handout<'_>,
+) -> Result<Option<OwedTrigger>, AllocError>
+    ensures { IfOk result (λ owed.
+        owed ≡ owed_by handout.now.rows (ends.place_of (next process.now)).0 (ends.place_of (next process.now)).1 by) }
+{
+    match by {
+        Cause::Order => Ok(None),
+        Cause::Break(serial) => owed_for(alloc, process, serial, handout),
+    }
+}
+
+/// The trigger that a stop at the breakpoint of this serial owes.
+fn owed_for(
+    alloc: Global,
     process: &Process<'_>,
     serial: u128,
-    taken: &Taken,
-) -> Result<Option<Trigger>, AllocError>
-    ensures { IfOk result (λ owed. owed ≡ option_map (owed_for pid (note.place_of (next process.now)).0 (note.place_of (next process.now)).1 serial) (row_at (note.place_of (next process.now)).0 (note.place_of (next process.now)).1 taken.now.table)) }
+    handout: &Handout<'_>,
+) -> Result<Option<OwedTrigger>, AllocError>
+    ensures { IfOk result (λ owed. owed ≡
+        owed_by handout.now.rows (ends.place_of (next process.now)).0 (ends.place_of (next process.now)).1 (cause.Break serial)) }
 {
     let (home, line) = place_of(alloc, process)?;
-    match taken.table.at(&home, line) {
+    match handout.table.at(&home, line) {
         None => Ok(None),
-        Some(row) => Ok(Some(Trigger {
-            process: pid,
+        Some(row) => Ok(Some(OwedTrigger {
             home,
             line,
             serial,
@@ -231,40 +273,55 @@ impl<'a> Live<'a> {
         &mut self,
         alloc: Global,
         code: &'a Code,
-        debuggee: &Debuggee,
+        handout: &Handout<'a>,
     ) -> Result<Slice, AllocError>
         requires lives { IsSome self.old }
-        requires some { 1 ≤ debuggee.now.taken.budget }
-        requires room { (t : Run) → self.old ≡ Some t → highest t + debuggee.now.taken.budget < 2 ^ 63 }
-        ensures slice { IfOk result (λ s. (t : Run) → self.old ≡ Some t → MakesSlice code.now (first_versions code.now) debuggee.now t s) }
-        ensures process { IfOk result (λ s. (t : Run) → self.old ≡ Some t → self.new ≡ Some (after_moves code.now (first_versions code.now) s.moves t)) }
-        ensures bound { IfOk result (λ s. s.moves ≤ debuggee.now.taken.budget) }
+        requires versions { handout.now.versions ≡ first_versions code.now }
+        requires some { 1 ≤ handout.now.budget }
+        requires room { (t : Run) → self.old ≡ Some t → highest t + handout.now.budget < 2 ^ 63 }
+        ensures slice { IfOk result (λ s. (p : ℕ) (t : Run) → self.old ≡ Some t → MakesSlice code.now handout.now p t s) }
+        ensures process { IfOk result (λ s. (t : Run) → self.old ≡ Some t → self.new ≡ Some (after_moves code.now handout.now.versions s.moves t)) }
+        ensures bound { IfOk result (λ s. s.moves ≤ handout.now.budget) }
     {
         let Some(process) = &mut self.running else {
             unreachable!();
         };
-        make_slice(process, alloc, code, debuggee)
+        make_slice(process, alloc, code, handout)
     }
 }
 
 impl<'a> State<'a> {
-    /// Gives a process a lease: it takes in the table and the interpreted modules as they are now.
+    /// What a process takes in with a lease of this budget: the server's table and interpreted modules as they are now.
+    fn handout(&self, pid: u32, budget: u32) -> Result<Handout<'a>, AllocError>
+        requires lives { IsSome (running_at self.now pid) }
+        ensures { IfOk result (λ h. h ≡ handout_now self.now.facts budget (debuggee_at self.now.facts pid)) }
+    {
+        let debuggee = &self.debuggees[(pid - 1) as usize];
+        Ok(Handout {
+            budget,
+            code: Some(self.code),
+            table: self.server.table.copy()?,
+            modules: copy_names(self.alloc, &self.server.interpreted)?,
+            flags: Vec::new(self.alloc),
+            mode: debuggee.next_mode(),
+            is_interpreted: debuggee.is_interpreted,
+            was_entered: debuggee.was_entered,
+            is_resumed: debuggee.is_resumed,
+        })
+    }
+
+    /// Gives a process a lease.
     pub(crate) fn lease(&mut self, pid: u32) -> Result<Entry, AllocError>
-        requires ready { IsReady self.old.facts pid }
-        requires light { self.old.facts.weight < self.old.plan.most }
+        requires lives { IsSome (running_at self.old pid) }
+        requires light { self.old.facts.weight < self.old.plan.weight_limit }
         ensures entry { IfOk result (λ e. e ≡ entry.Lease pid (budget_of self.old)) }
         ensures state { IfOk result (λ e. self.new ≡ noted self.old e) }
         ensures err { OnErr result (self.new ≡ self.old) }
     {
-        let budget = self.slice.min(self.most - (self.weight + 1));
-        let place = (pid - 1) as usize;
-        let taken = Taken {
-            budget,
-            table: self.server.table.copy()?,
-            interpreted: copy_names(self.alloc, &self.server.interpreted)?,
-            resumed: self.debuggees[place].resumed,
-        };
-        self.debuggees[place].lease(taken);
+        let left = self.weight_limit - (self.weight + 1);
+        let budget = self.slice_moves.min(left);
+        let handout = self.handout(pid, budget)?;
+        self.debuggees[(pid - 1) as usize].lease(handout);
         self.turn = pid;
         self.weight += 1;
         Ok(Entry::Lease { pid, budget })
@@ -273,14 +330,15 @@ impl<'a> State<'a> {
     /// Lets a leased process make the moves of its slice. Where memory is refused it may have made some.
     pub(crate) fn run(&mut self, pid: u32) -> Result<Slice, AllocError>
         requires lives { IsSome (running_at self.old pid) }
-        requires some { 1 ≤ (debugged_at self.old.facts pid).taken.budget }
-        requires room { (t : Run) → running_at self.old pid ≡ Some t → highest t + (debugged_at self.old.facts pid).taken.budget < 2 ^ 63 }
-        requires fits { self.old.facts.weight + (debugged_at self.old.facts pid).taken.budget < 2 ^ 32 }
+        requires versions { (debuggee_at self.old.facts pid).handout.versions ≡ self.old.facts.plain.versions }
+        requires some { 1 ≤ (debuggee_at self.old.facts pid).handout.budget }
+        requires room { (t : Run) → running_at self.old pid ≡ Some t → highest t + (debuggee_at self.old.facts pid).handout.budget < 2 ^ 63 }
+        requires fits { self.old.facts.weight + (debuggee_at self.old.facts pid).handout.budget < 2 ^ 32 }
         ensures { IfOk result (λ s. IsSliceOf self.old self.new pid s) }
     {
         let place = (pid - 1) as usize;
-        let debuggee = &self.debuggees[place];
-        let slice = self.processes[place].run(self.alloc, self.code, debuggee)?;
+        let handout = &self.debuggees[place].handout;
+        let slice = self.processes[place].run(self.alloc, self.code, handout)?;
         self.debuggees[place].run(slice.moves);
         self.weight += slice.moves.max(1);
         Ok(slice)
@@ -304,7 +362,7 @@ impl<'a> State<'a> {
         requires lives { IsSome (running_at self.old pid) }
         requires fits { self.old.facts.weight + 1 < 2 ^ 32 }
         requires arity { (t : Run) (i : Info) → running_at self.old pid ≡ Some t → innermost t ≡ Some i → i.arity < 2 ^ 32 }
-        ensures entry { IfOk result (λ e. (t : Run) → running_at self.old pid ≡ Some t → e ≡ note.enter_entry pid t) }
+        ensures entry { IfOk result (λ e. (t : Run) → running_at self.old pid ≡ Some t → e ≡ ends.enter_entry pid t) }
         ensures state { IfOk result (λ e. IsEndNoted self.old self.new e) }
         ensures err { OnErr result (self.new ≡ self.old) }
     {
@@ -314,49 +372,52 @@ impl<'a> State<'a> {
         Ok(entry)
     }
 
-    /// A process stops before the expression that is next, at the breakpoint of this serial, and owes the
-    /// trigger of the row that it took in.
-    pub(crate) fn stop(&mut self, pid: u32, serial: u128) -> Result<Entry, AllocError>
+    /// A process stops for a cause before the expression that is next, and owes the trigger of the row that it took in.
+    pub(crate) fn stop(&mut self, pid: u32, by: Cause) -> Result<Entry, AllocError>
         requires lives { IsSome (running_at self.old pid) }
         requires fits { self.old.facts.weight + 1 < 2 ^ 32 }
-        ensures entry { IfOk result (λ e. (t : Run) (b : Break) → running_at self.old pid ≡ Some t → b.serial ≡ serial → e ≡ note.stop_entry pid t b) }
+        ensures entry { IfOk result (λ e. (t : Run) → running_at self.old pid ≡ Some t → e ≡ stopped_by pid by t) }
         ensures state { IfOk result (λ e. IsEndNoted self.old self.new e) }
         ensures err { OnErr result (self.new ≡ self.old) }
     {
         let place = (pid - 1) as usize;
-        let entry = stop_entry(self.alloc, pid, self.running(pid), serial)?;
-        let taken = &self.debuggees[place].taken;
-        let owed = owed_trigger(self.alloc, pid, self.running(pid), serial, taken)?;
-        self.owed = owed;
-        self.debuggees[place].stop();
+        let entry = stop_entry(self.alloc, pid, self.running(pid), by)?;
+        let handout = &self.debuggees[place].handout;
+        let owed = owed_trigger(self.alloc, self.running(pid), by, handout)?;
+        self.debuggees[place].stop(owed);
         self.weight += 1;
         Ok(entry)
     }
 
-    /// Applies the trigger that is owed, where one is.
-    pub(crate) fn trigger(&mut self) -> Result<Option<Entry>, AllocError>
+    /// Applies the trigger that a process owes.
+    pub(crate) fn trigger(&mut self, pid: u32) -> Result<Entry, AllocError>
+        requires owes { IsLeastOwing self.old.facts pid }
+        requires few { pid ≤ length self.old.facts.plain.running }
         requires fits { self.old.facts.weight + 1 < 2 ^ 32 }
-        ensures entry { IfOk result (λ found. MatchOption found ((self.old.facts.owed ≡ None) × (self.new ≡ self.old)) (λ e. IsSomeAnd self.old.facts.owed (λ o. e ≡ trigger_entry self.old.facts.server.table o) × (self.new ≡ noted self.old e))) }
+        ensures entry { IfOk result (λ e. (o : facts.OwedTrigger) → (debuggee_at self.old.facts pid).owed ≡ Some o →
+            e ≡ trigger_entry self.old.facts.server.table pid o) }
+        ensures state { IfOk result (λ e. self.new ≡ noted self.old e) }
         ensures err { OnErr result (self.new ≡ self.old) }
     {
-        let Some(owed) = &self.owed else {
-            return Ok(None);
+        let place = (pid - 1) as usize;
+        let Some(owed) = &self.debuggees[place].owed else {
+            unreachable!();
         };
         let module = owed.home.copy(self.alloc)?;
-        let (pid, line, serial, action) = (owed.process, owed.line, owed.serial, owed.action);
+        let (line, serial, action) = (owed.line, owed.serial, owed.action);
         let applied = match action {
             Action::Enable => self.server.table.enable_serial(&module, line, serial),
             _ => self.server.table.has(&module, line, serial),
         };
-        self.owed = None;
+        self.debuggees[place].settle();
         self.weight += 1;
-        Ok(Some(Entry::Trigger {
+        Ok(Entry::Trigger {
             pid,
             module,
             line,
             serial,
             action,
             applied,
-        }))
+        })
     }
 }

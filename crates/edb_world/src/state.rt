@@ -1,12 +1,12 @@
 //! The state of a world: all that the rules of a journal look at.
 
-ghost use Rattle.std.specs.Prelude.{◌≡◌, ◌<◌, ◌≤◌, ◌-◌, ◌^◌, [], None, false, length, MatchBool, IfOk};
+ghost use Rattle.std.specs.Prelude.{◌≡◌, ◌<◌, ◌≤◌, ◌-◌, ◌^◌, ◌∷◌, [], None, false, length, MatchBool, IfOk};
 ghost use Rattle.edb_model.specs.Bonds.{no_bonds};
 ghost use Rattle.edb_model.specs.Procs.{process_rows};
 ghost use Rattle.edb_model.specs.Plain.{tables_of};
 ghost use Rattle.edb_world.specs.Known.{known_first};
 
-use crate::debuggee::{Debuggee, Trigger};
+use crate::debuggee::Debuggee;
 use crate::live::{Live, Member};
 use crate::server::Interpreter;
 use edb_event::Command;
@@ -16,35 +16,36 @@ use std::alloc::{AllocError, Global};
 use std::marker::Model;
 use std::mem;
 
-/// What a session is given, and the facts of its journal so far. Contracts see the two.
+/// What a session is given, and the facts of its journal so far. Contracts see the two. The commands are those of console
+/// 1; the others have none.
 #[derive(Drop)]
 pub(crate) struct State<'a> {
     pub(crate) alloc: Global,
     pub(crate) code: &'a Code,
     pub(crate) commands: &'a [Command],
-    pub(crate) slice: u32,
-    pub(crate) most: u32,
+    pub(crate) slice_moves: u32,
+    pub(crate) weight_limit: u32,
     pub(crate) processes: Vec<Live<'a>>,
     pub(crate) members: Vec<Member>,
     pub(crate) output: Bytes,
     pub(crate) server: Interpreter,
-    pub(crate) debuggees: Vec<Debuggee>,
+    pub(crate) debuggees: Vec<Debuggee<'a>>,
     pub(crate) served: usize,
     pub(crate) own: Vec<u32>,
     pub(crate) last: u32,
     pub(crate) turn: u32,
-    pub(crate) owed: Option<Trigger>,
     pub(crate) weight: u32,
 }
 
 impl<'a> Model for State<'a> {
-    ghost use Rattle.std.specs.Prelude.{◌≡◌, ◌≤◌, [], length};
+    ghost use Rattle.std.specs.Prelude.{◌≡◌, ◌≤◌, ◌∷◌, [], false, length, replicate};
     ghost use Rattle.std.specs.Coded.{codes};
     ghost use Rattle.edb_lang.specs.TermCodes.{coded_datum};
     ghost use Rattle.edb_lang.specs.SyntaxCodes.{coded_module};
     ghost use Rattle.edb_model.specs.Lookup.{first_versions};
     ghost use Rattle.edb_model.specs.RunningCodes.{coded_run};
     ghost use Rattle.edb_model.specs.Bonds.{no_bonds};
+    ghost use Rattle.edb_rules.specs.Facts.{new_console};
     ghost use Rattle.edb_world.specs.Known.{Known};
 
     ghost Value = { Known };
@@ -52,7 +53,7 @@ impl<'a> Model for State<'a> {
     ghost coded = { Prim.hlevel (codes, coded_datum, coded_module, coded_run) };
 
     ghost view = { λ s. record {
-      plan = record { code = s.code.now; commands = s.commands.now; slice = s.slice; most = s.most };
+      plan = record { code = s.code.now; commands = s.commands.now ∷ []; slice_moves = s.slice_moves; weight_limit = s.weight_limit };
       facts = record {
         plain = record {
           procs = record { members = s.members.items; names = []; bonds = no_bonds; clock = 0; references = 0 };
@@ -61,14 +62,12 @@ impl<'a> Model for State<'a> {
           output = s.output;
         };
         server = s.server;
-        debugged = s.debuggees.items;
-        served = s.served;
-        own = s.own.items;
-        last = s.last;
+        debuggees = s.debuggees.items;
+        consoles = record { served = s.served; own = s.own.items; last = s.last } ∷ replicate 7 new_console;
         turn = s.turn;
         coming = [];
-        owed = s.owed;
         weight = s.weight;
+        is_over = false;
       };
     } };
 
@@ -81,17 +80,17 @@ impl<'a> State<'a> {
         alloc: Global,
         code: &'a Code,
         commands: &'a [Command],
-        slice: u32,
-        most: u32,
+        slice_moves: u32,
+        weight_limit: u32,
     ) -> State<'a>
-        ensures { result ≡ known_first (record { code = code.now; commands = commands.now; slice = slice; most = most }) }
+        ensures { result ≡ known_first (record { code = code.now; commands = commands.now ∷ []; slice_moves = slice_moves; weight_limit = weight_limit }) }
     {
         State {
             alloc,
             code,
             commands,
-            slice,
-            most,
+            slice_moves,
+            weight_limit,
             processes: Vec::new(alloc),
             members: Vec::new(alloc),
             output: Bytes::new(alloc),
@@ -101,16 +100,15 @@ impl<'a> State<'a> {
             own: Vec::new(alloc),
             last: 0,
             turn: 0,
-            owed: None,
             weight: 0,
         }
     }
 
     /// Whether the journal is lighter than the weight at which it is over.
     pub(crate) fn is_light(&self) -> bool
-        ensures { MatchBool result (self.now.facts.weight < self.now.plan.most) (self.now.plan.most ≤ self.now.facts.weight) }
+        ensures { MatchBool result (self.now.facts.weight < self.now.plan.weight_limit) (self.now.plan.weight_limit ≤ self.now.facts.weight) }
     {
-        self.weight < self.most
+        self.weight < self.weight_limit
     }
 
     /// The tables that the run leaves; the state keeps neither the output nor the reasons of its processes.

@@ -1,26 +1,25 @@
 //! The world: the order of its turns, and its journal.
 
-ghost use Rattle.std.specs.Prelude.{◌≡◌, ◌<◌, ◌≤◌, ◌+◌, ◌++◌, ◌∷◌, ℕ, List, [], Some, IsSome, true, false, IfOk, OnOk};
-ghost use Rattle.edb_event.specs.declared.entry.Entry.{Entry as Noted};
+ghost use Rattle.std.specs.Prelude.{◌≡◌, ◌<◌, ◌≤◌, ◌∷◌, [], None, Some, true, false, IfOk, OnOk};
 ghost use Rattle.edb_event.specs.declared.entry.Entry.TheVariants as entry;
-ghost use Rattle.edb_event.specs.Ranges.{IsEntry, most_weight};
-ghost use Rattle.edb_event.specs.Weights.{weight, weight_of};
+ghost use Rattle.edb_event.specs.Weights.{weight};
 ghost use Rattle.edb_model.specs.Running.{Run};
-ghost use Rattle.edb_model.specs.Move.{next, is_move};
-ghost use Rattle.edb_rules.specs.Legal.{IsReady, NoCommand};
+ghost use Rattle.edb_rules.specs.Turns as rules;
+ghost use Rattle.edb_rules.specs.Ranks.{AtCommand, AtTurn, IsNext};
 ghost use Rattle.edb_rules.specs.Replies.{next_call, is_enabled};
-ghost use Rattle.edb_world.specs.Known.{running_at};
-ghost use Rattle.edb_world.specs.Turns.{IsFirstReady};
+ghost use Rattle.edb_rules.specs.SliceEnds.{enter_entry};
+ghost use Rattle.edb_world.specs.Turns.{HasTurn, IsActing, IsLeastOwing, stopped_by, told_entries};
+ghost use Rattle.edb_world.specs.Ranks.{IsStill, IsAllAnswered};
 ghost use Rattle.edb_world.specs.Plans.{IsPlan};
-ghost use Rattle.edb_rules.specs.Notes.{enter_entry, stop_entry};
-ghost use Rattle.edb_lang.specs.declared.small.Break.{Break};
-ghost use Rattle.edb_world.specs.Worlds.{Awaits, HasNext, IsLeased, IsAfterEnd, IsGoing, Went, AfterTurn, IsStopped};
+ghost use Rattle.edb_world.specs.Worlds.{IsLeased, IsEnding, IsEndNext, IsEndKept, HasEnded, IsGoing, Went, AfterTurn, IsStopped};
 ghost use Rattle.edb_world.specs.Outcomes.{IsOutcome};
 
-use crate::slices::SliceStop;
+use crate::commands::NextCommand;
+use crate::slices::SliceEnd;
 use crate::state::State;
 use crate::turns::Turn;
-use edb_event::{Call, Command, Entry, Journal};
+use edb_event::{Call, Cause, Command, Entry, Journal};
+use edb_lang::ActKind;
 use edb_model::{Code, Tables};
 use std::alloc::{AllocError, Global};
 use std::mem;
@@ -33,58 +32,53 @@ pub(crate) struct World<'a> {
 }
 
 impl<'a> World<'a> {
-    /// Applies the trigger that is owed; else serves a command, or gives a process a turn. Tells whether
-    /// there was anything to do.
+    /// Applies a trigger that is owed; else serves a command, or gives a process a turn. Tells whether there was anything
+    /// to do.
     fn turn(&mut self) -> Result<bool, AllocError>
         requires plan { IsPlan self.old.state.plan }
         requires going { IsGoing self.old }
-        requires light { self.old.state.facts.weight < self.old.state.plan.most }
+        requires light { self.old.state.facts.weight < self.old.state.plan.weight_limit }
         ensures { IfOk result (λ went. AfterTurn self.old self.new went) }
     {
-        match self.state.trigger()? {
-            Some(entry) => {
-                self.journal.push(entry)?;
+        match self.state.first_owing() {
+            Some(pid) => {
+                self.trigger(pid)?;
                 Ok(true)
             }
-            None => self.turn_without_trigger(),
+            None => self.command_or_process(),
         }
     }
 
-    /// The turn of the console's next command, or of a process.
-    fn turn_without_trigger(&mut self) -> Result<bool, AllocError>
+    /// Applies the trigger that a process owes.
+    fn trigger(&mut self, pid: u32) -> Result<(), AllocError>
         requires plan { IsPlan self.old.state.plan }
         requires going { IsGoing self.old }
-        requires light { self.old.state.facts.weight < self.old.state.plan.most }
-        requires no_trigger { self.old.state.facts.owed ≡ None }
-        ensures { IfOk result (λ went. AfterTurn self.old self.new went) }
-    {
-        match self.state.next_call()? {
-            Some(call) => {
-                self.command_or_process(call)?;
-                Ok(true)
-            }
-            None => self.process_or_rest(),
-        }
-    }
-
-    /// Serves a command where it is enabled; else gives a process a turn; else answers it `quiet`.
-    fn command_or_process(&mut self, call: Call) -> Result<(), AllocError>
-        requires plan { IsPlan self.old.state.plan }
-        requires going { IsGoing self.old }
-        requires light { self.old.state.facts.weight < self.old.state.plan.most }
-        requires no_trigger { self.old.state.facts.owed ≡ None }
-        requires next { next_call self.old.state.plan self.old.state.facts ≡ Some call }
+        requires light { self.old.state.facts.weight < self.old.state.plan.weight_limit }
+        requires owes { IsLeastOwing self.old.state.facts pid }
         ensures { OnOk result (Went self.old self.new) }
     {
-        if self.state.is_enabled(&call) {
-            return self.serve(call);
-        }
-        match self.state.next_turn() {
-            Some(pid) => {
-                self.process(pid)?;
-                Ok(())
+        let entry = self.state.trigger(pid)?;
+        self.journal.push(entry)?;
+        Ok(())
+    }
+
+    /// Serves the console's next command where it is enabled; else gives a process a turn.
+    fn command_or_process(&mut self) -> Result<bool, AllocError>
+        requires plan { IsPlan self.old.state.plan }
+        requires going { IsGoing self.old }
+        requires at { AtCommand self.old.state.plan self.old.state.facts }
+        ensures { IfOk result (λ went. AfterTurn self.old self.new went) }
+    {
+        match self.state.next_command()? {
+            NextCommand::Enabled(call) => {
+                self.serve(call)?;
+                Ok(true)
             }
-            None => self.serve_quiet(call),
+            NextCommand::Waits(call) => {
+                self.process_or_quiet(call)?;
+                Ok(true)
+            }
+            NextCommand::Through => self.process_or_rest(),
         }
     }
 
@@ -92,9 +86,8 @@ impl<'a> World<'a> {
     fn serve(&mut self, call: Call) -> Result<(), AllocError>
         requires plan { IsPlan self.old.state.plan }
         requires going { IsGoing self.old }
-        requires light { self.old.state.facts.weight < self.old.state.plan.most }
-        requires no_trigger { self.old.state.facts.owed ≡ None }
-        requires next { next_call self.old.state.plan self.old.state.facts ≡ Some call }
+        requires at { AtCommand self.old.state.plan self.old.state.facts }
+        requires next { IsNext self.old.state.plan self.old.state.facts 1 call }
         requires enabled { is_enabled self.old.state.facts call ≡ true }
         ensures { OnOk result (Went self.old self.new) }
     {
@@ -103,15 +96,27 @@ impl<'a> World<'a> {
         Ok(())
     }
 
+    /// Gives a process a turn, where one is ready; else answers the command that waits `quiet`.
+    fn process_or_quiet(&mut self, call: Call) -> Result<(), AllocError>
+        requires plan { IsPlan self.old.state.plan }
+        requires going { IsGoing self.old }
+        requires at { AtTurn self.old.state.plan self.old.state.facts }
+        requires next { next_call self.old.state.plan self.old.state.facts 1 ≡ Some call }
+        ensures { OnOk result (Went self.old self.new) }
+    {
+        match self.state.next_turn() {
+            Some((pid, turn)) => self.process(pid, turn),
+            None => self.serve_quiet(call),
+        }
+    }
+
     /// Answers a command that nothing enables any more.
     fn serve_quiet(&mut self, call: Call) -> Result<(), AllocError>
         requires plan { IsPlan self.old.state.plan }
         requires going { IsGoing self.old }
-        requires light { self.old.state.facts.weight < self.old.state.plan.most }
-        requires no_trigger { self.old.state.facts.owed ≡ None }
-        requires next { next_call self.old.state.plan self.old.state.facts ≡ Some call }
-        requires disabled { is_enabled self.old.state.facts call ≡ false }
-        requires still { (q : ℕ) → IsReady self.old.state.facts q → ⊥ }
+        requires at { AtTurn self.old.state.plan self.old.state.facts }
+        requires next { next_call self.old.state.plan self.old.state.facts 1 ≡ Some call }
+        requires still { IsStill self.old.state.facts }
         ensures { OnOk result (Went self.old self.new) }
     {
         let entry = self.state.answer_quiet(call);
@@ -119,61 +124,59 @@ impl<'a> World<'a> {
         Ok(())
     }
 
-    /// Gives a process a turn, where one is ready.
+    /// Gives a process a turn, where one is ready. Tells whether one was.
     fn process_or_rest(&mut self) -> Result<bool, AllocError>
         requires plan { IsPlan self.old.state.plan }
         requires going { IsGoing self.old }
-        requires light { self.old.state.facts.weight < self.old.state.plan.most }
-        requires no_trigger { self.old.state.facts.owed ≡ None }
-        requires served { next_call self.old.state.plan self.old.state.facts ≡ None }
+        requires at { AtTurn self.old.state.plan self.old.state.facts }
+        requires through { IsAllAnswered self.old.state.plan self.old.state.facts }
         ensures { IfOk result (λ went. AfterTurn self.old self.new went) }
     {
         match self.state.next_turn() {
-            Some(pid) => {
-                self.process(pid)?;
+            Some((pid, turn)) => {
+                self.process(pid, turn)?;
                 Ok(true)
             }
             None => Ok(false),
         }
     }
 
-    /// The turn of a process: it prints, it ends, or it makes the moves of a slice.
-    fn process(&mut self, pid: u32) -> Result<(), AllocError>
+    /// The turn of a process: it is given a lease, or makes an act.
+    fn process(&mut self, pid: u32, turn: Turn) -> Result<(), AllocError>
         requires plan { IsPlan self.old.state.plan }
         requires going { IsGoing self.old }
-        requires light { self.old.state.facts.weight < self.old.state.plan.most }
-        requires no_trigger { self.old.state.facts.owed ≡ None }
-        requires no_command { NoCommand self.old.state.plan self.old.state.facts }
-        requires turn { IsFirstReady self.old.state.facts pid }
+        requires at { AtTurn self.old.state.plan self.old.state.facts }
+        requires first { rules.IsFirst self.old.state.facts pid }
+        requires turn { HasTurn self.old.state.facts pid turn }
         ensures { OnOk result (Went self.old self.new) }
     {
-        match self.state.turn_of(pid) {
-            Turn::Print => {
-                let entry = self.state.print(pid)?;
-                self.journal.push(entry)?;
-                Ok(())
-            }
-            Turn::Last => {
-                let entry = self.state.end(pid)?;
-                self.journal.push(entry)?;
-                Ok(())
-            }
-            Turn::Move => {
-                self.slice(pid)?;
-                Ok(())
-            }
+        match turn {
+            Turn::Leases => self.slice(pid),
+            Turn::Does(kind) => self.act(pid, kind),
         }
+    }
+
+    /// Lets a process make the act that is next for it.
+    fn act(&mut self, pid: u32, kind: ActKind) -> Result<(), AllocError>
+        requires plan { IsPlan self.old.state.plan }
+        requires going { IsGoing self.old }
+        requires at { AtTurn self.old.state.plan self.old.state.facts }
+        requires first { rules.IsFirst self.old.state.facts pid }
+        requires acting { IsActing self.old.state.facts pid kind }
+        ensures { OnOk result (Went self.old self.new) }
+    {
+        let entry = self.state.act(pid, kind)?;
+        self.journal.push(entry)?;
+        Ok(())
     }
 
     /// Gives a process a lease, and lets it run where that didn't reach the greatest weight.
     fn slice(&mut self, pid: u32) -> Result<(), AllocError>
         requires plan { IsPlan self.old.state.plan }
         requires going { IsGoing self.old }
-        requires light { self.old.state.facts.weight < self.old.state.plan.most }
-        requires no_trigger { self.old.state.facts.owed ≡ None }
-        requires no_command { NoCommand self.old.state.plan self.old.state.facts }
-        requires turn { IsFirstReady self.old.state.facts pid }
-        requires moves { (t : Run) → running_at self.old.state pid ≡ Some t → is_move (next t) ≡ true }
+        requires at { AtTurn self.old.state.plan self.old.state.facts }
+        requires first { rules.IsFirst self.old.state.facts pid }
+        requires turn { rules.turn_of self.old.state.facts pid ≡ Some rules.leases }
         ensures { OnOk result (Went self.old self.new) }
     {
         let entry = self.state.lease(pid)?;
@@ -197,26 +200,37 @@ impl<'a> World<'a> {
             moves: slice.moves,
             cond: 0,
         })?;
-        match slice.stop {
-            SliceStop::Leaves => {
+        self.end(pid, slice.end)?;
+        Ok(())
+    }
+
+    /// Keeps the entries that end a slice.
+    fn end(&mut self, pid: u32, end: SliceEnd) -> Result<(), AllocError>
+        requires plan { IsPlan self.old.state.plan }
+        requires bound { self.old.state.facts.weight ≤ 1_000_000 }
+        requires ending { (t : Run) × IsEnding self.old pid t (told_entries pid t end) }
+        ensures { OnOk result (HasEnded self.old self.new) }
+    {
+        match end {
+            SliceEnd::Leaves => {
                 self.leave(pid)?;
                 Ok(())
             }
-            SliceStop::ActNext => Ok(()),
-            SliceStop::Enters => {
+            SliceEnd::ActNext => Ok(()),
+            SliceEnd::Enters(None) => {
                 self.enter(pid)?;
                 Ok(())
             }
-            SliceStop::EntersAndStops(serial) => {
+            SliceEnd::Enters(Some(by)) => {
                 self.enter(pid)?;
-                self.stop(pid, serial)?;
+                self.stop(pid, by)?;
                 Ok(())
             }
-            SliceStop::Stops(serial) => {
-                self.stop(pid, serial)?;
+            SliceEnd::Stops(by) => {
+                self.stop(pid, by)?;
                 Ok(())
             }
-            SliceStop::Spent => Ok(()),
+            SliceEnd::Spent => Ok(()),
         }
     }
 
@@ -224,10 +238,8 @@ impl<'a> World<'a> {
     fn leave(&mut self, pid: u32) -> Result<(), AllocError>
         requires plan { IsPlan self.old.state.plan }
         requires bound { self.old.state.facts.weight ≤ 1_000_002 }
-        requires lives { IsSome (running_at self.old.state pid) }
-        requires next { HasNext self.old (entry.Leave pid) }
-        ensures keeps { OnOk result ((rest : List Noted) → Awaits self.old (entry.Leave pid ∷ rest) → Awaits self.new rest) }
-        ensures same { OnOk result (IsAfterEnd self.old self.new) }
+        requires next { IsEndNext self.old pid (λ t. entry.Leave pid) }
+        ensures { OnOk result (IsEndKept self.old self.new pid (λ t. entry.Leave pid)) }
     {
         let entry = self.state.leave(pid);
         self.journal.push(entry)?;
@@ -238,26 +250,22 @@ impl<'a> World<'a> {
     fn enter(&mut self, pid: u32) -> Result<(), AllocError>
         requires plan { IsPlan self.old.state.plan }
         requires bound { self.old.state.facts.weight ≤ 1_000_002 }
-        requires lives { IsSome (running_at self.old.state pid) }
-        requires next { (t : Run) → running_at self.old.state pid ≡ Some t → HasNext self.old (enter_entry pid t) }
-        ensures keeps { OnOk result ((t : Run) (rest : List Noted) → running_at self.old.state pid ≡ Some t → Awaits self.old (enter_entry pid t ∷ rest) → Awaits self.new rest) }
-        ensures same { OnOk result (IsAfterEnd self.old self.new) }
+        requires next { IsEndNext self.old pid (enter_entry pid) }
+        ensures { OnOk result (IsEndKept self.old self.new pid (enter_entry pid)) }
     {
         let entry = self.state.enter(pid)?;
         self.journal.push(entry)?;
         Ok(())
     }
 
-    /// Keeps that a process stops at the breakpoint of a serial.
-    fn stop(&mut self, pid: u32, serial: u128) -> Result<(), AllocError>
+    /// Keeps that a process stops for a cause.
+    fn stop(&mut self, pid: u32, by: Cause) -> Result<(), AllocError>
         requires plan { IsPlan self.old.state.plan }
         requires bound { self.old.state.facts.weight ≤ 1_000_002 }
-        requires lives { IsSome (running_at self.old.state pid) }
-        requires next { (t : Run) (b : Break) → running_at self.old.state pid ≡ Some t → b.serial ≡ serial → HasNext self.old (stop_entry pid t b) }
-        ensures keeps { OnOk result ((t : Run) (b : Break) (rest : List Noted) → running_at self.old.state pid ≡ Some t → b.serial ≡ serial → Awaits self.old (stop_entry pid t b ∷ rest) → Awaits self.new rest) }
-        ensures same { OnOk result (IsAfterEnd self.old self.new) }
+        requires next { IsEndNext self.old pid (stopped_by pid by) }
+        ensures { OnOk result (IsEndKept self.old self.new pid (stopped_by pid by)) }
     {
-        let entry = self.state.stop(pid, serial)?;
+        let entry = self.state.stop(pid, by)?;
         self.journal.push(entry)?;
         Ok(())
     }
@@ -305,21 +313,21 @@ pub struct Outcome {
 fn discard(_world: World<'_>) {}
 
 /// Runs the modules by the commands of console 1 until nothing is left to do, or until the journal's weight
-/// reaches `most`; a slice has at most `slice` moves. What is given has to be a plan that a world runs (`IsPlan`):
-/// names and arities in the modules that entries can have, commands in range and of those that are served, a
-/// slice of one move at least, and `most` at most 1,000,000. Refused only for want of memory.
+/// reaches `weight_limit`; a slice has at most `slice_moves` moves. What is given has to be a plan that a world runs
+/// (`IsPlan`): names and arities in the modules that entries can have, commands in range and of those that are served, a
+/// slice of one move at least, and a limit of at most 1,000,000. Refused only for want of memory.
 pub fn run_world(
     alloc: Global,
     code: &Code,
     commands: &[Command],
-    slice: u32,
-    most: u32,
+    slice_moves: u32,
+    weight_limit: u32,
 ) -> Result<Outcome, AllocError>
-    requires { IsPlan (record { code = code.now; commands = commands.now; slice = slice; most = most }) }
-    ensures { IfOk result (λ left. IsOutcome (record { code = code.now; commands = commands.now; slice = slice; most = most }) left) }
+    requires { IsPlan (record { code = code.now; commands = commands.now ∷ []; slice_moves = slice_moves; weight_limit = weight_limit }) }
+    ensures { IfOk result (λ left. IsOutcome (record { code = code.now; commands = commands.now ∷ []; slice_moves = slice_moves; weight_limit = weight_limit }) left) }
 {
     let mut world = World {
-        state: State::new(alloc, code, commands, slice, most),
+        state: State::new(alloc, code, commands, slice_moves, weight_limit),
         journal: Journal::new(alloc),
     };
     let left = world.finish();

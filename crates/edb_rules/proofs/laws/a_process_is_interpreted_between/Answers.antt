@@ -1,4 +1,4 @@
-use Rattle.edb_rules.proofs.Inside.{inside_is}
+use Rattle.edb_rules.proofs.Told.{inside_is}
 use Rattle.edb_rules.proofs.laws.a_process_is_interpreted_between.Goals as goal
 
 pub returns : goal.returns

@@ -1,4 +1,4 @@
-use Rattle.edb_rules.proofs.StoppedBy.{stopped_is}
+use Rattle.edb_rules.proofs.Told.{stopped_is}
 use Rattle.edb_rules.proofs.laws.a_process_is_stopped_between.Goals as goal
 
 pub returns : goal.returns

@@ -1,4 +1,4 @@
-use Rattle.edb_rules.proofs.Places.{stands_before}
+use Rattle.edb_rules.proofs.Stops.{stands_before}
 use Rattle.edb_rules.proofs.laws.stops_stand_before.Goals as goal
 
 pub returns : goal.returns

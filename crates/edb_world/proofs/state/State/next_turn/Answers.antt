@@ -1,5 +1,5 @@
 use Rattle.std.proofs.Common.{rules}
-use Rattle.edb_world.proofs.ReadyLaws.{first_round}
+use Rattle.edb_world.proofs.Rounds.{first_round}
 use Rattle.edb_world.proofs.state.State.next_turn.Goals as goal
 
 pub returns-in-None : goal.returns-in-None

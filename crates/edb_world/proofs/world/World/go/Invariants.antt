@@ -8,4 +8,4 @@ invariant-loop-self l = record { going : IsGoing l.self; plan : l.self.state.pla
 
 -- what is left of the weight
 abbrev pub decreases-loop-self : goal.decreases-loop-self
-decreases-loop-self l = l.self.state.plan.most - l.self.state.facts.weight
+decreases-loop-self l = l.self.state.plan.weight_limit - l.self.state.facts.weight

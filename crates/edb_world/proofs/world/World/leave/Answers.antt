@@ -1,24 +1,27 @@
-use Rattle.std.proofs.Common.{◌≡◌, [], ◌∷◌, ◌++◌, refl, ◌∙◌, ap, subst, arith}
+use Rattle.std.proofs.Common.{◌≡◌, subst, ap, arith}
 use Rattle.edb_event.specs.declared.entry.Entry.{Entry}
 use Rattle.edb_event.specs.declared.entry.Entry.TheVariants as entry
 use Rattle.edb_event.specs.Weights.{weight_of}
+use Rattle.edb_world.specs.Known.{running_at}
 use Rattle.edb_world.specs.Turns.{IsEndNoted}
-use Rattle.edb_world.proofs.Ending.{leave_may, awaits_more, leave_calm, after_end, next_weighed}
+use Rattle.edb_world.proofs.PlaceLaws.{is_some_here}
+use Rattle.edb_world.proofs.Ending.{leave_is, end_weighed, ended_one, keeps_one}
 use Rattle.edb_world.proofs.world.World.leave.Goals as goal
+
+pub leave-entry-requires-clause-lives : goal.leave-entry-requires-clause-lives
+leave-entry-requires-clause-lives c =
+    let n = c.requires.next in is_some_here (running_at c.args.self.now.state c.args.pid) n.0 n.2.lives
 
 pub push-requires-clause-light : goal.push-requires-clause-light
 push-requires-clause-light c =
-    let heavy = next_weighed c.args.self.now (entry.Leave c.args.pid) c.requires.next in
+    let n = c.requires.next in
+    let heavy = end_weighed c.args.self.now c.args.pid n.0 (entry.Leave c.args.pid) n.1 n.2 (leave_is c.args.pid) in
     let one : weight_of c.leave-entry.result ≡ 1 = ap weight_of c.leave-entry.ensures.entry in
     omega (arith, heavy, one, c.requires.bound)
 
-pub returns-clause-keeps : goal.returns-clause-keeps
-returns-clause-keeps c = λ rest a.
-    awaits_more c.args.self.now (record { state = c.leave-entry.new.self; journal = c.push.new.self }) (entry.Leave c.args.pid) rest a
-    (leave_may _ _ _ (rest, refl)) tt (subst (λ (e : Entry). IsEndNoted c.args.self.now.state c.leave-entry.new.self e) c.leave-entry.ensures.entry c.leave-entry.ensures.state)
-    (c.in_ok-push.ensures.ok ∙ ap (λ (e : Entry). c.args.self.now.journal.entries ++ e ∷ []) c.leave-entry.ensures.entry)
-
-pub returns-clause-same : goal.returns-clause-same
-returns-clause-same c =
-    after_end c.args.self.now (record { state = c.leave-entry.new.self; journal = c.push.new.self }) (entry.Leave c.args.pid) (leave_calm c.args.pid)
+pub returns : goal.returns
+returns c = λ t rest ending.
+    ended_one c.args.self.now c.args.pid t (entry.Leave c.args.pid) rest ending (leave_is c.args.pid)
+    (record { state = c.leave-entry.new.self; journal = c.push.new.self })
     (subst (λ (e : Entry). IsEndNoted c.args.self.now.state c.leave-entry.new.self e) c.leave-entry.ensures.entry c.leave-entry.ensures.state)
+    (keeps_one c.args.self.now.journal.entries c.push.new.self.entries c.leave-entry.result (entry.Leave c.args.pid) c.in_ok-push.ensures.ok c.leave-entry.ensures.entry)
