@@ -1,5 +1,6 @@
 -- the rules
 pub mod Names
+pub mod Numbers
 pub mod InOrder
 pub mod Lines
 pub mod Ends

@@ -4,8 +4,10 @@
 
 mod lines;
 mod names;
+mod numbers;
 mod reading;
 
 pub use lines::{LineWrite, write_line};
 pub use names::is_option_word;
+pub use numbers::read_number;
 pub use reading::{AskedFile, MOST_BYTES, ReadsFault, read_in_order};

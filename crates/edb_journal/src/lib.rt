@@ -1,4 +1,4 @@
-//! The journal's text: so far how it is written.
+//! The journal's text, and how it is written.
 #![tactic(auto, unfolding(crate::specs::Lines::line, edb_fields::specs::Separators::fields))]
 
 mod journals;

@@ -1,26 +1,28 @@
 -- The elements of a list are read as references: what is done to these is done to their values.
 
-use Rattle.std.proofs.Common.{◌≡◌, ℕ, suc, ◌+◌, ◌-◌, Bool, true, false, cond, List, [], ◌∷◌, ◌++◌, map, reverse, take, drop, set, length, min, ltb, leb, slice_get, Option, Some, None, Ok, position, is_some, unwrap_or, refl, sym, ap, ◌∙◌, arith, ◌≤◌}
+use Rattle.std.proofs.Common.{◌≡◌, ℕ, suc, ◌+◌, ◌-◌, Bool, true, false, cond, List, [], ◌∷◌, ◌++◌, map, reverse, take, drop, set, length, ltb, leb, slice_get, Option, Some, None, Ok, position, is_some, unwrap_or, refl, sym, ap, ◌∙◌, arith, ◌≤◌}
 use Prim.Native.Nat.compare
 use Rattle.std.specs.List.{last_or, remove, list_any, position_or_len}
 use Rattle.std.specs.Option.{option_map}
 use Rattle.std.proofs.lemmas.List.{map-append, map-set, take-map, drop-map, take_all}
-use Rattle.std.proofs.lemmas.Bool.{leb-true, leb-false, lt-ltb}
+use Rattle.std.proofs.lemmas.Bool.{lt-ltb}
 use Rattle.std.proofs.lemmas.Option.{slice_get-map}
 use Rattle.std.proofs.lemmas.List.{length-map}
-use Rattle.std.proofs.Math.Nat.{le_refl}
 use mathlib.Core.List.{reverse-cons}
 use Rattle.edb_lang.specs.Terms.{Datum, of_list}
 use Rattle.edb_pure.specs.Truths.{same_term, truth_answer}
 use Rattle.edb_lang.specs.ListTerms.{elements_of}
 use Rattle.edb_pure.specs.Answers.{Answer, list_answer, given}
 use Rattle.edb_pure.specs.Tuples.{items_of, place_of}
-use Rattle.edb_pure.specs.Keys.{has_key, by_key, keydelete}
+use Rattle.edb_pure.specs.Keys.{has_key, by_key}
 use Rattle.edb_pure.specs.Integers.{count_of}
-use Rattle.edb_pure.specs.Lists.{without_first, nthtail, sublist, member, last, delete}
+use Rattle.edb_pure.specs.Lists.{without_first, nthtail, member, last}
 
 pub map-take : {X Y : Type 0} (f : X → Y) (n : ℕ) (xs : List X) → map f (take n xs) ≡ take n (map f xs)
 map-take f n xs = sym (take-map f n xs)
+
+pub take_every : {X Y : Type 0} (f : X → Y) (n : ℕ) (xs : List X) → length xs ≤ n → take n (map f xs) ≡ map f xs
+take_every f n xs long = take_all n (map f xs) (omega (arith, length-map xs f))
 
 pub map-drop : {X Y : Type 0} (f : X → Y) (n : ℕ) (xs : List X) → map f (drop n xs) ≡ drop n (map f xs)
 map-drop f n xs = sym (drop-map f n xs)
@@ -88,35 +90,15 @@ last_is_at (x ∷ xs) =
 pub nthtail_is : (n t : Datum) (k : ℕ) (ts us : List Datum) → count_of n ≡ Some k → Some ts ≡ elements_of t → leb k (length ts) ≡ true → us ≡ drop k ts → list_answer us ≡ nthtail n t
 nthtail_is n t k ts us e f g h = rw (e, ← f, g, h) refl
 
-pub sublist_is : (n t : Datum) (k : ℕ) (ts us : List Datum) → count_of n ≡ Some k → Some ts ≡ elements_of t → us ≡ take k ts → list_answer us ≡ sublist t n
-sublist_is n t k ts us e f h = rw (e, ← f, h) refl
-
--- all elements, if that is fewer
-pub take_most : {X : Type 0} (xs : List X) (k m : ℕ) → m ≡ min k (length xs) → take m xs ≡ take k xs
-take_most xs k m e = rw e (by (leb k (length xs)) refl)
-  where
-    by : (b : Bool) → leb k (length xs) ≡ b → take (min k (length xs)) xs ≡ take k xs
-    by true f = let few : min k (length xs) ≡ k = (let h = leb-true k (length xs) f in omega arith) in rw few refl
-    by false f = let h = leb-false k (length xs) f in
-        let all : min k (length xs) ≡ length xs = omega arith in
-        let long : length xs ≤ k = omega arith in
-        rw all (take_all (length xs) xs (le_refl (length xs)) ∙ sym (take_all k xs long))
-
 pub member_is : (x t : Datum) (ts : List Datum) (b : Bool) → Some ts ≡ elements_of t → b ≡ is_some (position (same_term x) ts) → truth_answer b ≡ member x t
 member_is x t ts b f e = rw (e, ← f, any_is_first (same_term x) ts) refl
 
 pub last_is : {X : Type 0} (v : X → Datum) (t : Datum) (xs : List X) (o : Option X) → Some (map v xs) ≡ elements_of t → o ≡ slice_get xs (length xs - 1) → given (option_map v o) Ok ≡ last t
 last_is v t xs o f e = rw (e, ← f, last_is_at (map v xs), length-map, slice_get-map v xs (length xs - 1)) refl
 
-pub delete_is : {X : Type 0} (v : X → Datum) (x t : Datum) (xs ys : List X) (o : Option ℕ) → Some (map v xs) ≡ elements_of t → o ≡ position (same_term x) (map v xs) → ys ≡ unwrap_or (option_map (remove xs) o) xs → list_answer (map v ys) ≡ delete x t
-delete_is v x t xs ys o f e g = rw (g, map_without v xs o, e, ← f, without_first_is x (map v xs)) refl
-
 pub items_are : (ts : List Datum) → items_of (of_list ts) ≡ ts
 items_are [] = refl
 items_are (t ∷ ts) = ap (λ us. t ∷ us) (items_are ts)
-
-pub keydelete_is : {X : Type 0} (v : X → Datum) (x n t : Datum) (i : ℕ) (xs ys : List X) (o : Option ℕ) → Some i ≡ place_of n → Some (map v xs) ≡ elements_of t → o ≡ position (has_key x i) (map v xs) → ys ≡ unwrap_or (option_map (remove xs) o) xs → list_answer (map v ys) ≡ keydelete x n t
-keydelete_is v x n t i xs ys o h f e g = rw (g, map_without v xs o, e, ← h, ← f) refl
 
 pub by_key_is : (g : List Datum → Option ℕ → Answer) (x n t : Datum) (i : ℕ) (ts : List Datum) (o : Option ℕ) → Some i ≡ place_of n → Some ts ≡ elements_of t → o ≡ position (has_key x i) ts → g ts o ≡ by_key g x n t
 by_key_is g x n t i ts o h f e = rw (e, ← h, ← f) refl
@@ -127,3 +109,7 @@ map_set f xs i x = map-set f xs i x
 pub ruleset changes = (map_set, map-append)
 
 pub ruleset values = (map-take, map-drop, map-reverse, map-remove, map-append)
+
+pub ruleset deletions = (map_without, without_first_is)
+
+pub ruleset fronts = (map-take, take_every, length-map)

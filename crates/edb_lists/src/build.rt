@@ -1,6 +1,6 @@
 //! Lists made of other lists.
 
-ghost use Rattle.std.specs.Prelude.{◌≡◌, ◌++◌, IfOk, List, length, map, flat_map, replicate, zip};
+ghost use Rattle.std.specs.Prelude.{◌≡◌, ◌++◌, IfOk, List, length, map, flat_map, replicate, take, zip};
 ghost use Rattle.std.specs.Option.{option_map};
 ghost use Rattle.edb_lang.specs.ListTerms.{elements_of, list_of};
 ghost use Rattle.edb_lang.specs.Terms as terms;
@@ -82,7 +82,6 @@ pub fn nthtail(alloc: Global, length: &Term, list: &Term) -> Result<Result<Term,
 }
 
 /// `lists:sublist/2`: so many elements from the first on, or all. `AllocError` only if out of memory.
-#[tactic(auto, using(crate::proofs::Values::values))]
 pub fn sublist(alloc: Global, list: &Term, length: &Term) -> Result<Result<Term, Raise>, AllocError>
     ensures { IfOk result (λ r. r ≡ rows.sublist list.now length.now) }
 {
@@ -92,8 +91,18 @@ pub fn sublist(alloc: Global, list: &Term, length: &Term) -> Result<Result<Term,
     let Some(length) = count(length) else {
         return badarg(alloc);
     };
-    let length = length.min(items.len() as u128) as usize;
-    listed(alloc, copies(alloc, &items[..length])?)
+    listed(alloc, copies(alloc, front(&items, length))?)
+}
+
+// So many elements from the first on, or all.
+#[tactic(auto, using(crate::proofs::Values::fronts))]
+fn front<'a, 't>(items: &'a [&'t Term], length: u128) -> &'a [&'t Term]
+    ensures { map (λ t. t.now) result.now ≡ take length (map (λ t. t.now) items.now) }
+{
+    if length >= items.len() as u128 {
+        return items;
+    }
+    &items[..length as usize]
 }
 
 /// `lists:append/1`: the lists in a list, put together. `AllocError` only if out of memory.

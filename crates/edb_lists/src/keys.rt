@@ -52,6 +52,7 @@ pub fn keymember(
 
 /// `lists:keydelete/3`: the list without the first tuple that has the key at the position. `AllocError` only if out of
 /// memory.
+#[tactic(auto, using(crate::proofs::Values::deletions))]
 pub fn keydelete(
     alloc: Global,
     key: &Term,

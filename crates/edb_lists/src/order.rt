@@ -3,6 +3,7 @@
 ghost use Rattle.std.specs.Prelude.{◌≡◌, IfOk, map};
 ghost use Rattle.std.specs.List.{dedup};
 ghost use Rattle.std.specs.Option.{option_map};
+ghost use Rattle.edb_lang.specs.Order.{term_cmp};
 ghost use Rattle.edb_lang.specs.Terms.{Datum};
 ghost use Rattle.edb_pure.specs.Keys as keys;
 ghost use Rattle.edb_pure.specs.Lists as rows;
@@ -14,6 +15,7 @@ use crate::raises::{badarg, list as listed};
 use edb_lang::Term;
 use edb_pure::Raise;
 use std::alloc::{AllocError, Global};
+use std::cmp::Ordering;
 
 /// `lists:sort/1`: the elements in the order of terms. `AllocError` only if out of memory.
 pub fn sort(alloc: Global, list: &Term) -> Result<Result<Term, Raise>, AllocError>
@@ -102,8 +104,15 @@ fn by_key<'a>(pairs: Vec<(&'a Term, &'a Term)>) -> Result<Vec<(&'a Term, &'a Ter
     ensures { IfOk result (λ made. map {B = Datum × Datum} (λ p. (p.0.now, p.1.now)) made.items ≡ sorting.sorted keys.is_key_below (map {B = Datum × Datum} (λ p. (p.0.now, p.1.now)) pairs.entry.items)) }
 {
     let mut pairs = pairs;
-    pairs.sort_by(|first, second| first.0.cmp(second.0))?;
+    pairs.sort_by(|first, second| compare_keys(first, second))?;
     Ok(pairs)
+}
+
+// Elements behind their keys compare by the keys.
+fn compare_keys(first: &(&Term, &Term), second: &(&Term, &Term)) -> Ordering
+    ensures { result ≡ term_cmp first.now.0.now second.now.0.now }
+{
+    first.0.cmp(second.0)
 }
 
 // Copies of the elements behind their keys.

@@ -49,6 +49,7 @@ pub fn member(alloc: Global, wanted: &Term, list: &Term) -> Result<Result<Term, 
 }
 
 /// `lists:delete/2`: a list without the first element that equals a term. `AllocError` only if out of memory.
+#[tactic(auto, using(crate::proofs::Values::deletions))]
 pub fn delete(alloc: Global, wanted: &Term, list: &Term) -> Result<Result<Term, Raise>, AllocError>
     ensures { IfOk result (λ r. r ≡ rows.delete wanted.now list.now) }
 {

@@ -1,13 +1,13 @@
 -- The line of a refusal is what was to be written.
 
-use Rattle.std.proofs.Common.{◌≡◌, inl, ℕ, Bool, List, [], Option, None, refl, subst, sym}
+use Rattle.std.proofs.Common.{◌≡◌, inl, ℕ, Bool, List, [], Option, None, Some, refl, subst, sym, append-nil, arith}
 use Rattle.edb_io.specs.OneRead.{Read}
 use Rattle.edb_files.specs.Lines.{IsLineWritten}
 use Rattle.edb_files.proofs.LineLaws.{nothing_written}
 use Rattle.edb_tools.specs.declared.ending.ToolEnd.{ToolEnd}
 use Rattle.edb_tools.specs.declared.ending.ToolEnd.TheVariants.{Done, Words, FileFault, ModuleRefused, WriteFault, NoMemory}
 use Rattle.edb_tools.specs.Requests.{Request}
-use Rattle.edb_tools.specs.Ends.{IsEarly, IsWritten, name_in, refusal_line}
+use Rattle.edb_tools.specs.Ends.{IsEarly, IsWritten, ReadsSome, name_in, refusal_line}
 
 pub refused_written : (request : Option Request) (name : List ℕ) (e : ToolEnd) (reads_old reads_new : List Read) (old new : Option (List ℕ)) (before now : ℕ) (was flag : Bool)
     → IsEarly e → name_in request e ≡ name → IsLineWritten (refusal_line name e) old new before now was flag
@@ -30,3 +30,8 @@ written_as request other ro rn old new before now was flag e is w = subst (λ (r
 -- without a request there is no file
 pub no_name : (request : Option Request) → None ≡ request → name_in request Words ≡ []
 no_name request is = subst (λ (r : Option Request). name_in r Words ≡ []) is refl
+
+-- where nothing is read, some of the files were read: none
+pub read_nothing : (request : Option Request) (old : List Read) → ReadsSome request old old
+read_nothing None old = refl
+read_nothing (Some r) old = inl (record { texts = []; few = omega arith; listed = sym (append-nil old) })

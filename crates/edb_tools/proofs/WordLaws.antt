@@ -7,7 +7,7 @@ use Rattle.std.specs.List.{list_all}
 use Rattle.std.specs.Cmp.Lexicographic.{pointwise}
 use Rattle.edb_files.specs.InOrder.{Asked, text_file}
 use Rattle.edb_tools.specs.declared.words.Tool.TheVariants.{Check}
-use Rattle.edb_tools.specs.Requests.{Request, request, is_name, check_request, format_request, either_request, request_of, words_end}
+use Rattle.edb_tools.specs.Requests.{Request, request, is_name, check_request, format_request, generate_request, either_request, request_of, words_end}
 
 -- the command first and then the names
 request_is : {A : Type 0} (f : A → List ℕ) (ws : List A) (c : A) → 2 ≤ length ws → c ≡ get_or ws 0 c
@@ -50,4 +50,4 @@ pub found_check : {A : Type 0} (f : A → List ℕ) (words : List (List ℕ)) (n
     → Some (request Check (map f names)) ≡ check_request words → files ≡ map (λ x. text_file (f x)) names
     → Some (record { command = Check; files = files }) ≡ request_of words
 found_check f words names files is same =
-    ap (λ (fs : List Asked). Some (record { command = Check; files = fs })) (same ∙ files_are f names) ∙ ap (λ (o : Option Request). either_request o (format_request words)) is
+    ap (λ (fs : List Asked). Some (record { command = Check; files = fs })) (same ∙ files_are f names) ∙ ap (λ (o : Option Request). either_request o (either_request (format_request words) (generate_request words))) is

@@ -9,6 +9,7 @@ use Rattle.edb_io.specs.Writes.{Appended, AppendedPart}
 use Rattle.edb_syntax.specs.Syntax.{ModuleTree}
 use Rattle.edb_check.specs.declared.fault.CheckKind.{CheckKind}
 use Rattle.edb_check.specs.declared.fault.CheckKind.TheVariants as kind
+use Rattle.edb_gen.specs.Generated.{module_text, script_text}
 use Rattle.edb_print.specs.Layout.{text_of}
 use Rattle.edb_verdict.specs.declared.fault.ModuleFault.{ModuleFault}
 use Rattle.edb_verdict.specs.declared.fault.ModuleFault.TheVariants as fault
@@ -18,7 +19,7 @@ use Rattle.edb_files.specs.Lines.{IsKeptOrSet, IsLineWritten}
 use Rattle.edb_tools.specs.declared.ending.ToolEnd.{ToolEnd}
 use Rattle.edb_tools.specs.declared.ending.ToolEnd.TheVariants.{Done, Words, FileFault, ModuleRefused, WriteFault, NoMemory}
 use Rattle.edb_tools.specs.declared.words.Tool.{Tool}
-use Rattle.edb_tools.specs.declared.words.Tool.TheVariants.{Check, Format}
+use Rattle.edb_tools.specs.declared.words.Tool.TheVariants.{Check, Format, Generate}
 use Rattle.edb_tools.specs.Requests.{Request}
 use Rattle.edb_tools.specs.Verdicts.{AreAccepted, Accepts, FirstFault, Refuses}
 
@@ -63,10 +64,16 @@ pub record HasLayout (text out : List ℕ) : Type 0 where
   pub accepted : IsAccepted text tree
   pub laid : out ≡ text_of tree
 
--- What a command writes of its files' texts: `check` the line of each file, and `fmt` the layout of the one file's module.
+-- the generated module, a line, and the script of a run with so many workers
+abbrev pub generated_text : ℕ → List ℕ
+generated_text workers = (module_text ++ codes "%% script\n") ++ script_text workers
+
+-- What a command writes of its files' texts: `check` the line of each file, `fmt` the layout of the one file's module, and
+-- `gen` what is generated.
 abbrev pub Prints : Tool → List Asked → List (List ℕ) → List ℕ → Type 0
 Prints Check files texts out = out ≡ flat_map (λ file. ok_line file.name) files
 Prints Format files texts out = (text : List ℕ) × (texts ≡ text ∷ []) × HasLayout text out
+Prints (Generate workers) files texts out = out ≡ generated_text workers
 
 -- all files were read and accepted, and this is what the command writes of them
 pub record IsOutput (request : Request) (old new : List Read) (out : List ℕ) : Type 0 where

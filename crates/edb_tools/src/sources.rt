@@ -5,12 +5,13 @@ ghost use Rattle.edb_verdict.specs.Verdicts.{HasFault};
 ghost use Rattle.edb_files.specs.Asking.{asked_of};
 ghost use Rattle.edb_tools.specs.Views.{seen, IsAsked};
 ghost use Rattle.edb_tools.specs.Verdicts.{AreAccepted};
-ghost use Rattle.edb_tools.specs.Ends.{HasCause, HasLayout, HasReads, IsEarly, IsOutput, IsVerdict, Prints, joined};
+ghost use Rattle.edb_tools.specs.Ends.{HasCause, HasLayout, HasReads, IsEarly, IsOutput, IsVerdict, Prints, generated_text, joined};
 
 use crate::ToolEnd;
 use crate::lines::ok_texts;
 use crate::words::{AskedFor, Tool};
 use edb_files::{AskedFile, ReadsFault, read_in_order};
+use edb_gen::generate;
 use edb_io::Files;
 use edb_lang::Bytes;
 use edb_print::module_text;
@@ -88,6 +89,40 @@ fn layout_of(alloc: Global, texts: &[Bytes]) -> Result<Vec<Bytes>, ToolEnd>
     }
 }
 
+/// The module and the script of a generated run with so many workers, one text. `Err` comes only out of memory.
+fn generated(alloc: Global, workers: u32) -> Result<Bytes, AllocError>
+    requires some { 1 ≤ workers }
+    requires few { workers ≤ 200 }
+    ensures { IfOk result (λ text. text ≡ generated_text workers) }
+{
+    let made = generate(alloc, workers)?;
+    let mut text = made.source;
+    text.extend(b"%% script\n")?;
+    text.extend(made.script.as_slice())?;
+    Ok(text)
+}
+
+/// The generated run with so many workers, in one piece; `NoMemory` comes out of memory.
+fn generated_pieces(alloc: Global, workers: u32, texts: &[Bytes]) -> Result<Vec<Bytes>, ToolEnd>
+    requires some { 1 ≤ workers }
+    requires few { workers ≤ 200 }
+    requires none { length texts.now ≡ 0 }
+    ensures accepted { OnOk result (AreAccepted texts.now) }
+    ensures prints { IfOk result (λ pieces. Prints (Tool.Generate workers) [] texts.now (joined pieces.items)) }
+    ensures err { IfErr result (λ end. IsVerdict texts.now end) }
+{
+    match generated(alloc, workers) {
+        Ok(text) => {
+            let mut pieces = Vec::new(alloc);
+            match pieces.push(text) {
+                Ok(()) => Ok(pieces),
+                Err(_) => Err(ToolEnd::NoMemory),
+            }
+        }
+        Err(_) => Err(ToolEnd::NoMemory),
+    }
+}
+
 /// What a command writes of the texts of its files, in pieces; or how the tool ends if a text has a fault or it is out of
 /// memory.
 fn pieces_of(alloc: Global, asked: &AskedFor<'_>, texts: &[Bytes]) -> Result<Vec<Bytes>, ToolEnd>
@@ -100,6 +135,7 @@ fn pieces_of(alloc: Global, asked: &AskedFor<'_>, texts: &[Bytes]) -> Result<Vec
     match asked.command {
         Tool::Check => lines_of(alloc, asked.files.as_slice(), texts),
         Tool::Format => layout_of(alloc, texts),
+        Tool::Generate { workers } => generated_pieces(alloc, workers, texts),
     }
 }
 

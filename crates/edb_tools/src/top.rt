@@ -91,13 +91,13 @@ fn run_tool<F: Files, S: Sink>(
 
 /// Runs the tool to its end, and gives the program's status.
 ///
-/// The words are `check` and the names of one file or more, or `fmt` and the name of one file. No name begins with
-/// `-` and has a character more, and there are fewer than 4,294,967,295 words in all (`Words`, status 2, if they
-/// aren't so). Each file is read, in the order of the words, up to 1,000,001 bytes (`FileFault`, status 3, at the
+/// The words are `check` and the names of one file or more, `fmt` and the name of one file, or `gen` and a number of 1 to
+/// 200. No name begins with `-` and has a character more, and there are fewer than 4,294,967,295 words in all (`Words`,
+/// status 2, if they aren't so). Each file is read, in the order of the words, up to 1,000,001 bytes (`FileFault`, status 3, at the
 /// first whose read fails). Then each is scanned, parsed and checked (`ModuleRefused`, status 4, at the first that has
 /// a fault: the first of its scan, else its first form that is none, else the checker's first). Then `check` writes
-/// the line `FILE: ok` for each, in one write, and `fmt` the text of the file's module, in one write (`Done`, status
-/// 0). After a write that fails no more is written (`WriteFault`, status 7). `NoMemory`, status 8, comes if it
+/// the line `FILE: ok` for each, in one write, `fmt` the text of the file's module, in one write, and `gen` the
+/// generated module, the line `%% script` and the script for so many workers, in one write (`Done`, status 0). After a write that fails no more is written (`WriteFault`, status 7). `NoMemory`, status 8, comes if it
 /// is out of memory. Each of the first three writes its one line, and a fault of that write changes nothing. Files are
 /// counted from 0. The commands are those of docs/COMMANDS.md.
 pub fn tool<F: Files, S: Sink>(

@@ -1,14 +1,14 @@
 //! The words of the command line.
 
-ghost use Rattle.std.specs.Prelude.{◌≡◌, ◌<◌, ◌^◌, [], ◌∷◌, length, IfOk, IfSome, map, string_bytes, codes, nat_eq};
+ghost use Rattle.std.specs.Prelude.{◌≡◌, ◌≤◌, ◌<◌, ◌^◌, [], ◌∷◌, length, IfOk, IfSome, map, string_bytes, codes, nat_eq};
 ghost use Rattle.std.specs.List.{list_all};
 ghost use Rattle.std.specs.Option.{option_map};
 ghost use Rattle.edb_files.specs.InOrder.{text_file};
 ghost use Rattle.edb_files.specs.Asking.{asked_of};
-ghost use Rattle.edb_tools.specs.Requests.{is_name, request, check_request, format_request, request_of};
+ghost use Rattle.edb_tools.specs.Requests.{is_name, request, check_request, format_request, generate_request, request_of};
 ghost use Rattle.edb_tools.specs.Views.{seen, IsAsked};
 
-use edb_files::{AskedFile, MOST_BYTES, is_option_word};
+use edb_files::{AskedFile, MOST_BYTES, is_option_word, read_number};
 use std::alloc::{AllocError, Global};
 
 /// A command of the tool.
@@ -18,6 +18,8 @@ pub(crate) enum Tool {
     Check,
     /// To lay out the module of one file.
     Format,
+    /// To write the module and the script of a generated run with so many workers.
+    Generate { workers: u32 },
 }
 
 /// What the words ask for: a command, and the files that it takes, in order.
@@ -29,6 +31,9 @@ pub(crate) struct AskedFor<'a> {
 
 /// There are fewer words than this, so that each file has a number below 2^32.
 const WORDS_END: usize = 4_294_967_295;
+
+/// The most workers of a generated run.
+const MOST_WORKERS: u32 = 200;
 
 /// Whether each word names a file.
 fn are_names(words: &[String]) -> bool
@@ -73,6 +78,22 @@ fn format_name(words: &[String]) -> Option<&String>
                 return None;
             }
             Some(name)
+        }
+        _ => None,
+    }
+}
+
+/// How many workers the generated run has, if the words are `gen` and a number of 1 to 200.
+fn generated_workers(words: &[String]) -> Option<u32>
+    ensures range { IfSome result (λ workers. (1 ≤ workers) × (workers ≤ 200)) }
+    ensures request { option_map (λ workers. request (Tool.Generate workers) []) result ≡ generate_request (map string_bytes words.now) }
+{
+    match words {
+        [command, number] => {
+            if command.as_bytes() != b"gen".as_slice() {
+                return None;
+            }
+            read_number(number.as_str(), 1, MOST_WORKERS)
         }
         _ => None,
     }
@@ -126,7 +147,14 @@ pub(crate) fn find_request<'a>(
                 let command = Tool::Format;
                 Ok(Some(AskedFor { command, files }))
             }
-            None => Ok(None),
+            None => match generated_workers(words) {
+                Some(workers) => {
+                    let files = Vec::new(alloc);
+                    let command = Tool::Generate { workers };
+                    Ok(Some(AskedFor { command, files }))
+                }
+                None => Ok(None),
+            },
         },
     }
 }

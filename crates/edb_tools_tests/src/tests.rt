@@ -25,6 +25,37 @@ const UNSAFE: &[u8] =
 /// Two strings in a row, which are one, in a function that nothing calls.
 const STRINGS: &[u8] = b"-module(a).\nf() -> \"a\" \"b\".\n";
 
+/// The generated run with one worker.
+const ONE_WORKER: &[u8] = b"-module(gen).
+-export([main/1, work/1]).
+main(N) ->
+    Me = self(),
+    tell([spawn(gen, work, [Me]) || _ <- lists:seq(1, N)], 1),
+    collect(N, 0).
+tell([], _) -> ok;
+tell([P | Ps], I) ->
+    P ! {add, I},
+    tell(Ps, I + 1).
+work(Boss) ->
+    receive
+        {add, I} ->
+            Boss ! {done, I * I}
+    end.
+collect(0, Sum) -> Sum;
+collect(N, Sum) ->
+    receive
+        {done, S} ->
+            collect(N - 1, Sum + S)
+    end.
+%% script
+ii gen
+ib gen 14
+start gen main [1]
+await any break
+continue *
+await $1 exit
+";
+
 /// One run: its words, the content of `a.erl`, the read and the write that fail, and what is wanted.
 #[derive(Clone, Copy)]
 struct Row<'a> {
@@ -191,6 +222,15 @@ fn ends_and_writes(rt: HostRuntime) -> Result<(), Fail> {
             None,
             b"edbtool: words\n",
         ),
+        make_row(&["gen", "1"], OPEN, 0, None, ONE_WORKER),
+        make_row(&["gen", "0000001"], OPEN, 0, None, ONE_WORKER),
+        make_row(&["gen", "00000001"], OPEN, 2, None, b"edbtool: words\n"),
+        make_row(&["gen", "0"], OPEN, 2, None, b"edbtool: words\n"),
+        make_row(&["gen", "201"], OPEN, 2, None, b"edbtool: words\n"),
+        make_row(&["gen", "+1"], OPEN, 2, None, b"edbtool: words\n"),
+        make_row(&["gen", ""], OPEN, 2, None, b"edbtool: words\n"),
+        make_row(&["gen"], OPEN, 2, None, b"edbtool: words\n"),
+        make_row(&["gen", "1", "1"], OPEN, 2, None, b"edbtool: words\n"),
         make_row(&["check"], OPEN, 2, None, b"edbtool: words\n"),
         make_row(&["check", "-x"], OPEN, 2, None, b"edbtool: words\n"),
         make_row(

@@ -1,4 +1,4 @@
-use Rattle.std.proofs.Common.{◌≡◌, ◌∙◌, map, ap, Bor, rules}
+use Rattle.std.proofs.Common.{◌∙◌, map, ap, Bor, rules}
 use Rattle.std.proofs.lemmas.Fn.{dedup_same}
 use Rattle.edb_lang.specs.declared.term.Term.{Term}
 use Rattle.edb_pure.specs.Truths.{same_term}

@@ -1,4 +1,4 @@
-use Rattle.std.proofs.Common.{◌≡◌, ◌∙◌, map, ap, Bor, rules}
+use Rattle.std.proofs.Common.{◌∙◌, map, ap, Bor, rules}
 use Rattle.std.proofs.lemmas.List.Sorted.{ranks_by, answers_always}
 use Rattle.edb_lang.specs.declared.term.Term.{Term}
 use Rattle.edb_pure.specs.Sorting.{is_below}

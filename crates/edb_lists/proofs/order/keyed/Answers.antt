@@ -1,4 +1,4 @@
-use Rattle.std.proofs.Common.{◌≡◌, ◌∙◌, ap, sym, arith}
+use Rattle.std.proofs.Common.{◌∙◌, ap, sym, arith}
 use Rattle.std.specs.Option.{option_map}
 use Rattle.edb_lists.proofs.OrderWalks.{keyed_none, keyed_more, keyed_all}
 use Rattle.edb_lists.proofs.order.keyed.Goals as goal

@@ -1,4 +1,4 @@
-use Rattle.std.proofs.Common.{◌≡◌, ◌∙◌, List, map, ap, sym, subst, IfOk, Bor}
+use Rattle.std.proofs.Common.{◌≡◌, ◌∙◌, map, ap, sym, subst, IfOk, Bor}
 use Rattle.std.specs.Option.{option_map}
 use Rattle.edb_lang.specs.Terms.{Datum}
 use Rattle.edb_lang.specs.declared.term.Term.{Term}

@@ -1,0 +1,5 @@
+pub mod Answered
+pub mod EntryLaws
+pub mod JournalLaws
+pub mod Parting
+pub mod Told

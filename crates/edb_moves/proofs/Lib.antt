@@ -1,0 +1,11 @@
+pub mod RowForms
+pub mod RowsCalls
+pub mod RowsChoice
+pub mod RowsTries
+pub mod RowsLists
+pub mod RowsBodies
+pub mod BodiesKept
+pub mod GoLaws
+pub mod Levels
+pub mod RowsParts
+pub mod BodiesTold

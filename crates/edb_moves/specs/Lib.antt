@@ -1,0 +1,16 @@
+pub mod Running
+pub mod Built
+pub mod Matching
+pub mod Guards
+pub mod Clauses
+pub mod Going
+pub mod Raises
+pub mod Versions
+pub mod Calls
+pub mod Comprehensions
+pub mod Moves
+pub mod Next
+pub mod Plugging
+pub mod Exits
+pub mod Innermost
+pub mod RunningCodes

@@ -1,0 +1,2 @@
+pub mod RowsPrinting
+pub mod PrintsLaw

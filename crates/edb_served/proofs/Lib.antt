@@ -1,0 +1,5 @@
+pub mod Loops
+pub mod WordLaws
+pub mod CallLaws
+pub mod ReplyLaws
+pub mod Written

@@ -1,0 +1,5 @@
+pub mod Collected
+pub mod Halving
+pub mod Looking
+pub mod Signatures
+pub mod Lookups
