@@ -13,7 +13,8 @@ use Rattle.edb_event.specs.declared.entry.Cause.{Cause}
 use Rattle.edb_event.specs.declared.entry.Entry.{Entry}
 use Rattle.edb_event.specs.declared.entry.Entry.TheVariants as entry
 use Rattle.edb_rules.specs.Plans.{Plan}
-use Rattle.edb_rules.specs.Facts.{Handout, Debuggee, Facts, debuggee_at, is_among}
+use Rattle.edb_rules.specs.Facts.{Handout, Debuggee, Facts, debuggee_at}
+use Rattle.edb_rules.specs.Server.{is_among}
 use Rattle.edb_rules.specs.Slices.{after_moves, level_in, asked_to, Why, due, SliceEnd, leaves, act_next, enters, stops, spent, if_spent, if_due, at_next, end_at}
 use Rattle.edb_rules.specs.SliceEnds.{place_of, body_in, cause_of, end_entries, coming_after}
 use Rattle.edb_rules.specs.Orders.{order_of}
@@ -29,7 +30,7 @@ process_here [] n q t e = absurd (none-some t e)
 process_here (x ∷ xs) zero q t e = refl
 process_here (x ∷ xs) (suc n) q t e = process_here xs n q t e
 
-with_here : (s : Plain) (p : ℕ) (q : Option Run) (t : Run) → running_at s p ≡ Some t → running_at (with_running s p q) p ≡ q
+pub with_here : (s : Plain) (p : ℕ) (q : Option Run) (t : Run) → running_at s p ≡ Some t → running_at (with_running s p q) p ≡ q
 with_here s zero q t e = absurd (none-some t e)
 with_here s (suc n) q t e = process_here s.running n q t e
 
@@ -137,12 +138,12 @@ pub record EnterTells (f : Facts) (p : ℕ) (m n : List ℕ) (a : ℕ) : Type 0 
   pub name : n ≡ (body_in running).name
   pub arity : a ≡ (body_in running).arity
 
-abbrev IsThere : Plan → Facts → Entry → Type 0
+abbrev pub IsThere : Plan → Facts → Entry → Type 0
 IsThere plan f (entry.Stop p m l n by) = StopTells plan f p m l n by
 IsThere plan f (entry.Enter p m n a) = EnterTells f p m n a
 IsThere plan f _ = Unit {0}
 
-abbrev AreThere : Plan → Facts → List Entry → Type 0
+abbrev pub AreThere : Plan → Facts → List Entry → Type 0
 AreThere plan f [] = Unit {0}
 AreThere plan f (e ∷ es) = IsThere plan f e × AreThere plan f es
 
@@ -237,7 +238,7 @@ ran_there plan f p n c may =
     (ends_there plan g p n u rule.end (ran_lives plan f p n c may)
     (subst (λ (x : Handout). EndMeans plan.code x p n u (Some rule.end)) (sym (handed plan f (entry.Ran p n c) p tt)) means))
 
-there_step : (plan : Plan) (f : Facts) (e : Entry) → AreThere plan f f.coming → May plan f e → AreThere plan (note plan f e) (note plan f e).coming
+pub there_step : (plan : Plan) (f : Facts) (e : Entry) → AreThere plan f f.coming → May plan f e → AreThere plan (note plan f e) (note plan f e).coming
 there_step plan f (entry.Ran p n c) d may = ran_there plan f p n c may
 there_step plan f (entry.Leave p) d may = rest_there plan f (note plan f (entry.Leave p)) refl (λ q. handed plan f (entry.Leave p) q tt) f.coming d
 there_step plan f (entry.Enter p m n a) d may = rest_there plan f (note plan f (entry.Enter p m n a)) refl (λ q. handed plan f (entry.Enter p m n a) q tt) f.coming d
@@ -260,7 +261,7 @@ there_step plan f (entry.Served c x r) d may = none_there plan _ _ (elim may.rul
   | inr q ↦ q.at.at.at.at.at.begin.whole
 ])
 
-first_there : (plan : Plan) (f : Facts) (e : Entry) (rest : List Entry) → f.coming ≡ e ∷ rest → AreThere plan f f.coming → IsThere plan f e
+pub first_there : (plan : Plan) (f : Facts) (e : Entry) (rest : List Entry) → f.coming ≡ e ∷ rest → AreThere plan f f.coming → IsThere plan f e
 first_there plan f e rest is d = let there : AreThere plan f (e ∷ rest) = subst (λ (es : List Entry). AreThere plan f es) is d in there.0
 
 all_there : (plan : Plan) (journal : List Entry) (k : ℕ) → Legal plan journal → AreThere plan (facts plan (take k journal)) (facts plan (take k journal)).coming

@@ -15,7 +15,8 @@ use Rattle.edb_event.specs.declared.entry.Cause.{Cause}
 use Rattle.edb_event.specs.declared.entry.Entry.{Entry}
 use Rattle.edb_event.specs.declared.entry.Entry.TheVariants as entry
 use Rattle.edb_rules.specs.Plans.{Plan}
-use Rattle.edb_rules.specs.Facts.{Handout, Debuggee, Facts, at_first, debuggee_at, is_among}
+use Rattle.edb_rules.specs.Facts.{Handout, Debuggee, Facts, at_first, debuggee_at}
+use Rattle.edb_rules.specs.Server.{is_among}
 use Rattle.edb_rules.specs.Slices.{after_moves, is_stop_point, is_ordered, row_tried, active_among, asked_of, Why, ordered, broken, due, SliceEnd, leaves, act_next, enters, stops, spent}
 use Rattle.edb_rules.specs.SliceEnds.{end_entries, coming_after}
 use Rattle.edb_rules.specs.Orders.{order_of, with_order}
@@ -93,7 +94,7 @@ pub record Keeps (f : Facts) : Type 0 where
 same_seen : (d e : Debuggee) → seen e ≡ seen d → IsTold d → IsTold e
 same_seen d e same told = subst IsSeen (sym same) told
 
-abbrev IsStop : Entry → Type 0
+abbrev pub IsStop : Entry → Type 0
 IsStop (entry.Stop p m l n by) = Unit {0}
 IsStop _ = ⊥
 
@@ -125,7 +126,7 @@ told_with plan f (entry.Served c x r) d may free told = same_seen d (with_order 
 first_fresh : (f : Facts) (e : Entry) (rest : List Entry) → f.coming ≡ e ∷ rest → AreFresh f f.coming → IsFresh f e rest
 first_fresh f e rest is d = let there : AreFresh f (e ∷ rest) = subst (λ (es : List Entry). AreFresh f es) is d in there.0
 
-stop_free : (plan : Plan) (f : Facts) (e : Entry) → Keeps f → May plan f e → IsStop e → (debuggee_at f (process_in e)).is_out ≡ false
+pub stop_free : (plan : Plan) (f : Facts) (e : Entry) → Keeps f → May plan f e → IsStop e → (debuggee_at f (process_in e)).is_out ≡ false
 stop_free plan f (entry.Stop p m l n by) keeps may is = (first_fresh f (entry.Stop p m l n by) may.rule.0 may.rule.1 keeps.fresh).1
 stop_free plan f _ keeps may is = absurd is
 

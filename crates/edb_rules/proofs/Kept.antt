@@ -1,13 +1,15 @@
 -- In a legal journal the versions are the first ones, and what the debugger knows lists each process.
 
-use Rattle.std.proofs.Common.{◌≡◌, ◌⊎◌, inl, inr, ℕ, zero, suc, ◌+◌, List, [], ◌∷◌, length, Option, unwrap_or, length-append, refl, sym, ◌∙◌, ap, subst, arith}
-use Rattle.std.proofs.lemmas.Bool.{both_ways}
+use Rattle.std.proofs.Common.{◌≡◌, ◌⊎◌, inl, inr, ℕ, zero, suc, ◌+◌, ◌<◌, Bool, true, false, if◌then◌else◌, nat_lt, List, [], ◌∷◌, length, Option, None, Some, unwrap_or, length-append, refl, sym, ◌∙◌, ap, subst, arith}
+use Rattle.std.specs.Option.{option_and_then}
+use Rattle.std.proofs.lemmas.Bool.{both_ways, ltb-true}
 use Rattle.std.proofs.lemmas.List.{length-set}
 use Rattle.std.proofs.lemmas.Option.{none-some}
 use Rattle.edb_lang.specs.declared.act.ActKind.{ActKind}
 use Rattle.edb_lang.specs.declared.act.ActKind.TheVariants as kind
 use Rattle.edb_model.specs.Plain.{Plain}
-use Rattle.edb_model.specs.Procs.{with_numbered}
+use Rattle.edb_lang.specs.Terms.{Datum}
+use Rattle.edb_model.specs.Procs.{with_numbered, most_processes}
 use Rattle.edb_event.specs.declared.entry.Entry.{Entry}
 use Rattle.edb_event.specs.declared.entry.Entry.TheVariants as entry
 use Rattle.edb_rules.specs.Erasure.{labels_of}
@@ -31,6 +33,14 @@ pub act_comes : (plan : Plan) (f : Facts) (p : ℕ) (k : ActKind) (v bytes : Lis
 act_comes plan f p k v bytes may =
     let told = acts_in f p may.act may.turn in
     subst (λ (x : ActKind). (x ≡ kind.Print) ⊎ (x ≡ kind.End)) (sym may.kind) (act_is may.act.kind told.ready.running may.act told.act)
+
+-- a start may stand only where there may be one process more
+few_of : (b : Bool) (f : Plain → Option Plain) (x t : Plain) → option_and_then f (if b then Some x else None) ≡ Some t → b ≡ true
+few_of true f x t e = refl
+few_of false f x t e = absurd (none-some t e)
+
+pub start_few : (plan : Plan) (f : Facts) (c p : ℕ) (m n : List ℕ) (args : Datum) → May plan f (entry.Start c p m n args) → length f.plain.running < most_processes
+start_few plan f c p m n args may = ltb-true (length f.plain.running) most_processes (few_of (nat_lt (length f.plain.running) most_processes) _ _ may.plain may.enabled)
 
 -- an entry that may stand is no load
 pub no_loads : (plan : Plan) (f : Facts) (e : Entry) → May plan f e → AreNoLoads (labels_of e)

@@ -5,11 +5,12 @@ pub mod Changes
 pub mod Turning
 pub mod Kept
 pub mod Weighed
+pub mod Made
+pub mod SeenLists
 pub mod Present
 pub mod Between
 pub mod Told
 pub mod Commanded
-pub mod Made
 pub mod Own
 pub mod Endings
 pub mod Fresh
@@ -27,4 +28,9 @@ pub mod OneRun
 pub mod Rows
 pub mod Triggers
 pub mod Nexts
+pub mod PlainSteps
+pub mod Agreeing
+pub mod ServerAgrees
+pub mod ServerCounts
+mod RowsServer
 pub mod Overs

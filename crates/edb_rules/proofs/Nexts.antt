@@ -1,7 +1,10 @@
 -- What is due is stopped at: behind a slice stands what its end brings. And turns go round.
 
 use Rattle.std.proofs.Common.{◌≡◌, ◌⊎◌, inl, inr, ℕ, suc, ◌+◌, Bool, true, false, if◌then◌else◌, not, ◌&&◌, List, [], ◌∷◌, Option, None, Some, take, refl, sym, ◌∙◌, ap, subst, arith}
+use Rattle.std.specs.Prelude.{is_some}
+use Rattle.std.specs.Option.{option_map_or}
 use Rattle.std.specs.List.{slice_get, fold}
+use Rattle.std.proofs.lemmas.Bool.{both_ways}
 use Rattle.std.proofs.lemmas.Option.{same_Some}
 use Rattle.edb_model.specs.Running.{Run}
 use Rattle.edb_model.specs.Move.{Next, begins, next}
@@ -10,16 +13,20 @@ use Rattle.edb_event.specs.declared.entry.Entry.{Entry}
 use Rattle.edb_event.specs.declared.entry.Entry.TheVariants as entry
 use Rattle.edb_event.specs.Ranges.{IsConsole}
 use Rattle.edb_rules.specs.Plans.{Plan}
-use Rattle.edb_rules.specs.Facts.{Handout, Facts, at_first, debuggee_at, is_among}
+use Rattle.edb_rules.specs.Facts.{Handout, Facts, at_first, debuggee_at}
+use Rattle.edb_rules.specs.Server.{is_among}
 use Rattle.edb_rules.specs.Slices.{after_moves, has_body, level_in, asked_to, Why, due, SliceEnd, leaves, enters, stops, if_due, if_spent, at_next, end_before, end_at}
 use Rattle.edb_rules.specs.SliceEnds.{place_of, cause_of, enter_entry, stop_entry, end_entries}
 use Rattle.edb_rules.specs.Turns.{Turn, turn_of, IsSooner, IsFirst}
 use Rattle.edb_rules.specs.Ranks.{AtTurn, AtQuiet, IsWaiting}
 use Rattle.edb_rules.specs.Notes.{turn_with, behind_first, note, after, facts}
 use Rattle.edb_rules.specs.Legal.{MayEnd, IsAnswer, May, Legal}
-use Rattle.edb_rules.specs.Replies.{refused, answer, reply_to}
+use Rattle.edb_rules.specs.Refusals.{refused}
+use Rattle.edb_rules.specs.Answers.{enables, has_status, first_with, answer, reply_of}
+use Rattle.edb_rules.specs.Server.{Server}
 use Rattle.edb_event.specs.declared.call.Call.{Call}
 use Rattle.edb_event.specs.declared.call.Call.TheVariants as command
+use Rattle.edb_event.specs.declared.call.ProcStatus.{ProcStatus}
 use Rattle.edb_event.specs.declared.reply.Refusal.{Refusal}
 use Rattle.edb_event.specs.declared.reply.Reply.TheVariants as reply
 use Rattle.edb_rules.specs.Between.{IsTurnOf}
@@ -182,18 +189,26 @@ pub commands_first : (plan : Plan) (journal : List Entry) (k p : ℕ) (e : Entry
 commands_first plan journal k p e c legal at is console =
     (first_of plan (facts plan (take k journal)) e p (may_at plan journal k e legal at) is).0.at.no_command c console
 
--- No reply of the server's is `quiet`: one stands only where nothing else can come.
-answer_not_quiet : (f : Facts) (x : Call) → answer f x ≡ reply.Quiet → ⊥
-answer_not_quiet f (command.Bindings p) e = cc
-answer_not_quiet f (command.Await p s) e = cc
-answer_not_quiet f _ e = cc
+-- No reply of the server's to a command that is enabled is `quiet`: one stands only where nothing else can come.
+await_not_quiet : (b : Bool) (p : ℕ) (t : ProcStatus) → b ≡ true → (if b then reply.Status p t else reply.Quiet) ≡ reply.Quiet → ⊥
+await_not_quiet true p t enabled e = cc
+await_not_quiet false p t enabled e = both_ways false refl enabled
 
-reply_not_quiet : (plan : Plan) (f : Facts) (c : ℕ) (x : Call) (o : Option Refusal) → refused plan f c x ≡ o → reply_to plan f c x ≡ reply.Quiet → ⊥
-reply_not_quiet plan f c x None is e = answer_not_quiet f x (let here : reply_to plan f c x ≡ answer f x = rw is refl in sym here ∙ e)
-reply_not_quiet plan f c x (Some why) is e = (let here : reply_to plan f c x ≡ reply.Refused why = rw is refl in let both : reply.Refused why ≡ reply.Quiet = sym here ∙ e in cc)
+any_not_quiet : (o : Option ℕ) (t : ProcStatus) → is_some o ≡ true → option_map_or (λ (p : ℕ). reply.Status p t) o reply.Quiet ≡ reply.Quiet → ⊥
+any_not_quiet None t enabled e = both_ways false refl enabled
+any_not_quiet (Some p) t enabled e = cc
+
+answer_not_quiet : (s : Server) (x : Call) → enables s x ≡ true → answer s x ≡ reply.Quiet → ⊥
+answer_not_quiet s (command.Await p t) enabled e = await_not_quiet (has_status s p t) p t enabled e
+answer_not_quiet s (command.AwaitAny t) enabled e = any_not_quiet (first_with s t) t enabled e
+answer_not_quiet s _ enabled e = cc
+
+reply_not_quiet : (s : Server) (c : ℕ) (x : Call) (o : Option Refusal) → refused s c x ≡ o → enables s x ≡ true → reply_of s c x ≡ reply.Quiet → ⊥
+reply_not_quiet s c x None is enabled e = answer_not_quiet s x enabled (let here : reply_of s c x ≡ answer s x = rw is refl in sym here ∙ e)
+reply_not_quiet s c x (Some why) is enabled e = (let here : reply_of s c x ≡ reply.Refused why = rw is refl in let both : reply.Refused why ≡ reply.Quiet = sym here ∙ e in cc)
 
 quiet_at : (plan : Plan) (f : Facts) (c : ℕ) (x : Call) → IsAnswer plan f c x reply.Quiet → AtQuiet plan f
-quiet_at plan f c x (inl a) = absurd (reply_not_quiet plan f c x (refused plan f c x) refl (sym a.same))
+quiet_at plan f c x (inl a) = absurd (reply_not_quiet f.server c x (refused f.server c x) refl a.enabled (sym a.same))
 quiet_at plan f c x (inr q) = q.at
 
 pub quiet_is : (plan : Plan) (journal : List Entry) (k c : ℕ) (x : Call) → Legal plan journal → slice_get journal k ≡ Some (entry.Served c x reply.Quiet)

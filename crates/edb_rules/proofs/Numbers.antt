@@ -13,7 +13,7 @@ use Rattle.edb_rules.specs.Notes.{note, facts}
 use Rattle.edb_rules.specs.Legal.{MayLease, May, Legal}
 use Rattle.edb_rules.proofs.Entries.{kept_from}
 use Rattle.edb_rules.proofs.Steps.{all_started, none_started}
-use Rattle.edb_rules.proofs.Kept.{no_load, no_advance, note_stays}
+use Rattle.edb_rules.proofs.Kept.{no_load, no_advance, start_few, note_stays}
 use Rattle.edb_rules.proofs.Present.{lives_within}
 use Rattle.edb_rules.proofs.Turning.{leases_in, acts_in}
 
@@ -24,7 +24,7 @@ none_more plan f e none few may = let made = (note_stays plan f e may).count in 
 
 few_step : (plan : Plan) (f : Facts) (e : Entry) → length f.plain.running ≤ 65536 → May plan f e → length (note plan f e).plain.running ≤ 65536
 few_step plan f (entry.Start c p m n args) few may =
-    let made = (note_stays plan f (entry.Start c p m n args) may).count in let under = may.rule.few in omega arith
+    let made = (note_stays plan f (entry.Start c p m n args) may).count in let under = start_few plan f c p m n args may in omega arith
 few_step plan f (entry.Load c m v) few may = absurd (no_load plan f c m v may)
 few_step plan f (entry.Skip c p) few may = absurd may.rule
 few_step plan f (entry.Kill c p) few may = absurd may.rule

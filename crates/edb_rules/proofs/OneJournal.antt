@@ -1,8 +1,8 @@
 -- With one hand the rules leave one next entry at each place, so of two legal journals of a plan one begins the other.
 
-use Rattle.std.proofs.Common.{◌≡◌, ◌⊎◌, inl, inr, ℕ, zero, suc, ◌<◌, Bool, true, false, List, [], ◌∷◌, ◌++◌, length, Option, Some, refl, sym, ◌∙◌, ap, ap₂, subst, append-nil, arith}
+use Rattle.std.proofs.Common.{◌≡◌, ◌⊎◌, inl, inr, ℕ, zero, suc, ◌<◌, Bool, true, false, List, [], ◌∷◌, ◌++◌, Option, None, Some, refl, sym, ◌∙◌, ap, ap₂, subst, append-nil, arith}
 use Rattle.std.specs.Prelude.{IfSome}
-use Rattle.std.proofs.lemmas.Bool.{both_ways, cases_order, lt-ltb}
+use Rattle.std.proofs.lemmas.Bool.{both_ways, cases_order}
 use Rattle.std.proofs.lemmas.Option.{none-some, same_Some}
 use Rattle.edb_lang.specs.declared.small.Action.{Action}
 use Rattle.edb_lang.specs.Syntax.{ModuleTree}
@@ -11,7 +11,6 @@ use Rattle.edb_lang.specs.declared.act.ActKind.{ActKind}
 use Rattle.edb_lang.specs.declared.act.ActKind.TheVariants as kind
 use Rattle.edb_model.specs.Running.{Run}
 use Rattle.edb_model.specs.Plain.{running_at}
-use Rattle.edb_model.specs.Procs.{most_processes}
 use Rattle.edb_event.specs.declared.entry.Entry.{Entry}
 use Rattle.edb_event.specs.declared.entry.Entry.TheVariants as entry
 use Rattle.edb_event.specs.declared.call.Call.{Call}
@@ -22,7 +21,10 @@ use Rattle.edb_event.specs.Ranges.{MayAnswer}
 use Rattle.edb_rules.specs.Plans.{Plan}
 use Rattle.edb_rules.specs.Facts.{Handout, Debuggee, OwedTrigger, Facts, at_first, debuggee_at}
 use Rattle.edb_rules.specs.Slices.{SliceEnd, asked_to, IsSlice}
-use Rattle.edb_rules.specs.Replies.{next_call, is_enabled, reply_to}
+use Rattle.edb_rules.specs.Replies.{next_call, is_enabled}
+use Rattle.edb_rules.specs.Server.{Server}
+use Rattle.edb_rules.specs.Refusals.{refused}
+use Rattle.edb_rules.specs.Answers.{reply_of}
 use Rattle.edb_rules.specs.Turns.{Turn, leases, does, turn_of, IsSooner, IsFirst}
 use Rattle.edb_rules.specs.Ranks.{MayBegin, AtCommand, AtSignal, NoLease, IsWaiting, IsNext}
 use Rattle.edb_rules.specs.Orders.{order_of}
@@ -312,18 +314,18 @@ one_serve : (plan : Plan) (f : Facts) (e d : Entry) → Serves plan f e → Serv
 one_serve plan f e d x y =
     let console = same_next plan f x.console y.console x.command y.command x.may.next x.may.enabled y.may.next y.may.enabled in
     let same = same_call plan f x.console y.console x.command y.command console x.may.next.call y.may.next.call in
-    let answer : x.answer ≡ y.answer = x.may.same ∙ (ap₂ (λ (n : ℕ) (z : Call). reply_to plan f n z) console same ∙ sym y.may.same) in
+    let answer : x.answer ≡ y.answer = x.may.same ∙ (ap₂ (λ (n : ℕ) (z : Call). reply_of f.server n z) console same ∙ sym y.may.same) in
     cc (x.is, y.is)
 
 -- a start that is accepted isn't refused
-start_accepted : (plan : Plan) (f : Facts) (c : ℕ) (m n : List ℕ) (args : Datum) → length f.plain.running < most_processes → reply_to plan f c (command.Start m n args) ≡ reply.Ok
-start_accepted plan f c m n args few = rw (lt-ltb (length f.plain.running) most_processes few) refl
+start_accepted : (s : Server) (c d : ℕ) (m n : List ℕ) (args : Datum) → refused s d (command.Start m n args) ≡ None → reply_of s c (command.Start m n args) ≡ reply.Ok
+start_accepted s c d m n args none = let same : refused s c (command.Start m n args) ≡ None = none in rw same refl
 
 start_no_serve : (plan : Plan) (f : Facts) (e d : Entry) → Starts plan f e → Serves plan f d → ⊥
 start_no_serve plan f e d x y =
     let console = same_next plan f x.console y.console _ y.command x.may.next refl y.may.next y.may.enabled in
     let same = same_call plan f x.console y.console _ y.command console x.may.next.call y.may.next.call in
-    let answer : y.answer ≡ reply.Ok = y.may.same ∙ (ap (reply_to plan f y.console) (sym same) ∙ start_accepted plan f y.console x.home x.name x.args x.may.few) in
+    let answer : y.answer ≡ reply.Ok = y.may.same ∙ (ap (reply_of f.server y.console) (sym same) ∙ start_accepted f.server y.console x.console x.home x.name x.args x.may.allowed) in
     subst (λ (r : Reply). MayAnswer (command.Start x.home x.name x.args) r) answer (subst (λ (z : Call). MayAnswer z y.answer) (sym same) y.served)
 
 one_command : (plan : Plan) (f : Facts) (e d : Entry) → Commands plan f e → Commands plan f d → e ≡ d

@@ -1,7 +1,7 @@
 -- The process of an entry that may stand was made; so what the entry makes of it is known of it then.
 
-use Rattle.std.proofs.Common.{◌≡◌, ◌⊎◌, inl, inr, ℕ, zero, suc, ◌<◌, ◌≤◌, Bool, true, false, if◌then◌else◌, not, nat_eq, nat_le, List, [], ◌∷◌, length, Option, None, Some, slice_index_or, refl, sym, ◌∙◌, ap, subst, arith}
-use Rattle.std.proofs.lemmas.Bool.{both_ways, leb-true, cases_order, and_parts, eq-eqb, ne_eqb}
+use Rattle.std.proofs.Common.{◌≡◌, ◌⊎◌, inl, inr, ℕ, zero, suc, ◌<◌, ◌≤◌, Bool, true, false, if◌then◌else◌, not, nat_eq, List, [], ◌∷◌, length, Option, None, Some, slice_index_or, refl, sym, ◌∙◌, ap, subst, arith}
+use Rattle.std.proofs.lemmas.Bool.{both_ways, cases_order, eq-eqb, ne_eqb}
 use Rattle.std.proofs.lemmas.Option.{none-some}
 use Rattle.edb_model.specs.Running.{Run}
 use Rattle.edb_model.specs.Plain.{Plain, running_at}
@@ -18,7 +18,10 @@ use Rattle.edb_rules.specs.Plans.{Plan}
 use Rattle.edb_rules.specs.Facts.{Debuggee, OwedTrigger, Facts, at_first, unseen, debuggee_at}
 use Rattle.edb_rules.specs.Slices.{SliceEnd, leaves, act_next, enters, stops, spent, end_at, after_moves}
 use Rattle.edb_rules.specs.SliceEnds.{end_entries, coming_after}
-use Rattle.edb_rules.specs.Replies.{is_made, is_served, refused, reply_to, is_accepted, first_case, not_interpreted}
+use Rattle.edb_rules.specs.Replies.{is_served, is_accepted}
+use Rattle.edb_rules.specs.Server.{Server, is_made}
+use Rattle.edb_rules.specs.Refusals.{refused, first_case, not_interpreted}
+use Rattle.edb_rules.specs.Answers.{reply_of}
 use Rattle.edb_rules.specs.Orders.{ordered_process}
 use Rattle.edb_rules.specs.Notes.{process_in, debuggee_with, with_changed, plain_with, behind_first, note, facts}
 use Rattle.edb_rules.specs.Legal.{IsAnswer, MayLease, May, Legal}
@@ -26,6 +29,7 @@ use Rattle.edb_rules.proofs.Entries.{kept_from}
 use Rattle.edb_rules.proofs.Kept.{no_load, note_length, agree_step}
 use Rattle.edb_rules.proofs.Changes.{with_or, with_within, push_same, spawned_same}
 use Rattle.edb_rules.proofs.Turning.{leases_in, acts_in}
+use Rattle.edb_rules.proofs.SeenLists.{made_within, listed_step}
 
 -- a process that has something to do was made
 index_within : {A : Type 0} (xs : List (Option A)) (n : ℕ) (t : A) → slice_index_or xs n None ≡ Some t → n < length xs
@@ -52,6 +56,7 @@ wider m n (e ∷ es) less all = (let first = all.0.0 in let last = all.0.1 in (o
 
 pub record Holds (f : Facts) : Type 0 where
   pub agree : length f.debuggees ≡ length f.plain.running
+  pub listed : length f.server.seen ≡ length f.plain.running
   pub coming : ArePresent (length f.debuggees) f.coming
 
 -- a process that has something to do is known
@@ -80,11 +85,13 @@ owes_known f p o owed = elim (present_or f.debuggees p) [
 ]
 
 -- The process that a command gives an order is known, where the command is accepted.
-made_known : (f : Facts) (p : ℕ) → length f.debuggees ≡ length f.plain.running → is_made f p ≡ true → IsPresent (length f.debuggees) p
-made_known f p agree made =
-    let both = and_parts (nat_le 1 p) (nat_le p (length f.plain.running)) made in
-    let low = leb-true 1 p both.0 in
-    let high = leb-true p (length f.plain.running) both.1 in
+made_known : (f : Facts) (p : ℕ) → Holds f → is_made f.server p ≡ true → IsPresent (length f.debuggees) p
+made_known f p holds made =
+    let inside = made_within f.server p made in
+    let low = inside.0 in
+    let high = inside.1 in
+    let agree = holds.agree in
+    let listed = holds.listed in
     (omega arith, omega arith)
 
 first_none : (b : Bool) (r : Refusal) (rest : List (Bool × Refusal)) → first_case ((b, r) ∷ rest) ≡ None → b ≡ false
@@ -96,14 +103,14 @@ not_false true e = refl
 not_false false e = absurd (both_ways true e refl)
 
 -- an accepted reply is none of a refusal
-unrefused : (plan : Plan) (f : Facts) (c : ℕ) (x : Call) (r : Reply) (o : Option Refusal) → refused plan f c x ≡ o → r ≡ reply_to plan f c x → is_accepted r ≡ true → refused plan f c x ≡ None
-unrefused plan f c x r None is same accepted = is
-unrefused plan f c x r (Some why) is same accepted =
-    let refuses : reply_to plan f c x ≡ reply.Refused why = rw is refl in
+unrefused : (s : Server) (c : ℕ) (x : Call) (r : Reply) (o : Option Refusal) → refused s c x ≡ o → r ≡ reply_of s c x → is_accepted r ≡ true → refused s c x ≡ None
+unrefused s c x r None is same accepted = is
+unrefused s c x r (Some why) is same accepted =
+    let refuses : reply_of s c x ≡ reply.Refused why = rw is refl in
     absurd (both_ways false refl (ap is_accepted (sym (same ∙ refuses)) ∙ accepted))
 
-pub accepted_unrefused : (plan : Plan) (f : Facts) (c : ℕ) (x : Call) (r : Reply) → IsAnswer plan f c x r → is_accepted r ≡ true → refused plan f c x ≡ None
-accepted_unrefused plan f c x r (inl answered) accepted = unrefused plan f c x r (refused plan f c x) refl answered.same accepted
+pub accepted_unrefused : (plan : Plan) (f : Facts) (c : ℕ) (x : Call) (r : Reply) → IsAnswer plan f c x r → is_accepted r ≡ true → refused f.server c x ≡ None
+accepted_unrefused plan f c x r (inl answered) accepted = unrefused f.server c x r (refused f.server c x) refl answered.same accepted
 accepted_unrefused plan f c x r (inr quiet) accepted = absurd (both_ways false refl (ap is_accepted (sym quiet.same) ∙ accepted))
 
 -- the entry is of no process
@@ -128,16 +135,16 @@ HasPresent f e = IsPresent (length f.debuggees) (process_in e) ⊎ HasNone e
 unserved : (x : Call) → is_served x ≡ true → is_served x ≡ false → ⊥
 unserved x known other = both_ways (is_served x) other known
 
-ordered_known : (plan : Plan) (f : Facts) (c : ℕ) (x : Call) → length f.debuggees ≡ length f.plain.running → is_served x ≡ true → refused plan f c x ≡ None
+ordered_known : (plan : Plan) (f : Facts) (c : ℕ) (x : Call) → Holds f → is_served x ≡ true → refused f.server c x ≡ None
     → IsPresent (length f.debuggees) (ordered_process x) ⊎ (ordered_process x ≡ 0)
-ordered_known plan f c (command.Continue p) agree known none = inl (made_known f p agree (not_false (is_made f p) (first_none (not (is_made f p)) refusal.NoProcess (not_interpreted f p ∷ []) none)))
+ordered_known plan f c (command.Continue p) agree known none = inl (made_known f p agree (not_false (is_made f.server p) (first_none (not (is_made f.server p)) refusal.NoProcess (not_interpreted f.server p ∷ []) none)))
 ordered_known plan f c (command.Step p) agree known none = absurd (unserved (command.Step p) known refl)
 ordered_known plan f c (command.Next p) agree known none = absurd (unserved (command.Next p) known refl)
 ordered_known plan f c (command.Finish p) agree known none = absurd (unserved (command.Finish p) known refl)
 ordered_known plan f c (command.Halt p) agree known none = absurd (unserved (command.Halt p) known refl)
 ordered_known plan f c _ agree known none = inr refl
 
-served_known : (plan : Plan) (f : Facts) (c : ℕ) (x : Call) (r : Reply) (b : Bool) → is_accepted r ≡ b → length f.debuggees ≡ length f.plain.running → is_served x ≡ true
+served_known : (plan : Plan) (f : Facts) (c : ℕ) (x : Call) (r : Reply) (b : Bool) → is_accepted r ≡ b → Holds f → is_served x ≡ true
     → IsAnswer plan f c x r → HasPresent f (entry.Served c x r)
 served_known plan f c x r true is agree known answer =
     let same : process_in (entry.Served c x r) ≡ ordered_process x = rw is refl in
@@ -179,7 +186,7 @@ present plan f (entry.Leave p) holds may = inl (next_known _ f.coming (entry.Lea
 present plan f (entry.Enter p m n a) holds may = inl (next_known _ f.coming (entry.Enter p m n a) may.rule.0 may.rule.1 holds.coming)
 present plan f (entry.Stop p m l n by) holds may = inl (next_known _ f.coming (entry.Stop p m l n by) may.rule.0 may.rule.1 holds.coming)
 present plan f (entry.Trigger p m l s a applied) holds may = inl (owes_known f p _ may.rule.owed)
-present plan f (entry.Served c x r) holds may = served_known plan f c x r (is_accepted r) refl holds.agree may.rule.known may.rule.answer
+present plan f (entry.Served c x r) holds may = served_known plan f c x r (is_accepted r) refl holds may.rule.known may.rule.answer
 
 -- the entries of a slice's end are its process's
 ends_present : (n p : ℕ) (t : Run) (end : SliceEnd) → IsPresent n p → ArePresent n (end_entries p t end)
@@ -215,11 +222,12 @@ coming_present plan f _ n holds may less = wider _ n _ less holds.coming
 pub holds_step : (plan : Plan) (f : Facts) (e : Entry) → Holds f → May plan f e → Holds (note plan f e)
 holds_step plan f e holds may = record {
   agree = agree_step plan f e holds.agree may;
+  listed = listed_step plan f e holds.listed may;
   coming = coming_present plan f e _ holds may (no_fewer plan f e may);
 }
 
 pub first_holds : (plan : Plan) → Holds (at_first plan)
-first_holds plan = record { agree = refl; coming = tt }
+first_holds plan = record { agree = refl; listed = refl; coming = tt }
 
 pub holds_at : (plan : Plan) (journal : List Entry) → Legal plan journal → Holds (facts plan journal)
 holds_at plan journal legal = kept_from plan Holds (holds_step plan) (at_first plan) journal (first_holds plan) legal

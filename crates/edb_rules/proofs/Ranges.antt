@@ -24,18 +24,21 @@ use Rattle.edb_event.specs.declared.entry.Entry.{Entry}
 use Rattle.edb_event.specs.declared.entry.Entry.TheVariants as entry
 use Rattle.edb_event.specs.Books.{commands_of}
 use Rattle.edb_event.specs.Ranges.{IsShort, IsNumber, IsCall, IsEntry, AreEntries, IsWord, IsCommand, AreCommands, AreScripts}
+use Rattle.std.proofs.lemmas.Bool.{both_ways}
 use Rattle.edb_rules.specs.Plans.{Plan}
 use Rattle.edb_rules.specs.Facts.{Console, Debuggee, OwedTrigger, Facts, at_first, new_console, console_at, debuggee_at}
 use Rattle.edb_rules.specs.Consoles.{command_of, console_with, consoles_by}
 use Rattle.edb_rules.specs.Slices.{SliceEnd, leaves, act_next, enters, stops, spent, after_moves, row_among}
 use Rattle.edb_rules.specs.SliceEnds.{no_body, body_in, end_entries, coming_after}
-use Rattle.edb_rules.specs.Replies.{named_process, process_of, about, next_call, reply_to, refused, answer}
+use Rattle.edb_rules.specs.Replies.{named_process, process_of, about, next_call, is_served}
+use Rattle.edb_rules.specs.Refusals.{refused}
+use Rattle.edb_rules.specs.Answers.{has_status, answer, reply_of}
 use Rattle.edb_rules.specs.Notes.{debuggee_with, owed_for, owed_by, behind_first, note, facts}
 use Rattle.edb_rules.specs.Orders.{order_of}
 use Rattle.edb_rules.specs.Legal.{IsAnswer, MayRun, May, Legal}
 use Rattle.edb_rules.specs.Bounds.{AreBounded}
 use Rattle.edb_rules.proofs.Entries.{kept_from}
-use Rattle.edb_rules.proofs.Kept.{no_load, note_stays}
+use Rattle.edb_rules.proofs.Kept.{no_load, note_stays, start_few}
 use Rattle.edb_rules.proofs.Changes.{each, order_keeps, act_keeps}
 use Rattle.edb_rules.proofs.Present.{coming_is, with_exact}
 use Rattle.edb_rules.proofs.Commanded.{IsEight, eight_step, next_command, next_stands, console_within}
@@ -154,27 +157,31 @@ next_in_range plan f c x are r e =
 status_process : (p q : ℕ) (s t : ProcStatus) → reply.Status p s ≡ reply.Status q t → p ≡ q
 status_process p q s t e = cc
 
-status_known : (plan : Plan) (f : Facts) (c : ℕ) (x : Call) (p : ℕ) (s : ProcStatus) → IsCall x → IsAnswer plan f c x (reply.Status p s) → IsNumber p
-status_known plan f c x p s is (inl a) = of_refusal (refused plan f c x) refl
+status_known : (plan : Plan) (f : Facts) (c : ℕ) (x : Call) (p : ℕ) (s : ProcStatus) → IsCall x → is_served x ≡ true → IsAnswer plan f c x (reply.Status p s) → IsNumber p
+status_known plan f c x p s is known (inl a) = of_refusal (refused f.server c x) refl
   where
-    awaited : (y : Call) → IsCall y → reply.Status p s ≡ answer f y → IsNumber p
-    awaited (command.Await q t) is e = subst IsNumber (sym (status_process p q s t e)) is
-    awaited (command.Bindings q) is e = absurd (cc)
-    awaited _ is e = absurd (cc)
+    of_await : (b : Bool) (q : ℕ) (t : ProcStatus) → IsNumber q → reply.Status p s ≡ (if b then reply.Status q t else reply.Quiet) → IsNumber p
+    of_await true q t is e = subst IsNumber (sym (status_process p q s t e)) is
+    of_await false q t is e = absurd (cc)
 
-    of_refusal : (o : Option Refusal) → refused plan f c x ≡ o → IsNumber p
-    of_refusal None none = awaited x is (a.same ∙ (let here : reply_to plan f c x ≡ answer f x = rw none refl in here))
-    of_refusal (Some why) some = absurd (let here : reply_to plan f c x ≡ reply.Refused why = rw some refl in let not_ : reply.Status p s ≡ reply.Refused why = a.same ∙ here in cc)
-status_known plan f c x p s is (inr q) = absurd (let not_ : reply.Status p s ≡ reply.Quiet = q.same in cc)
+    awaited : (y : Call) → IsCall y → is_served y ≡ true → reply.Status p s ≡ answer f.server y → IsNumber p
+    awaited (command.Await q t) is known e = of_await (has_status f.server q t) q t is e
+    awaited (command.AwaitAny t) is known e = absurd (both_ways false refl known)
+    awaited _ is known e = absurd (cc)
+
+    of_refusal : (o : Option Refusal) → refused f.server c x ≡ o → IsNumber p
+    of_refusal None none = awaited x is known (a.same ∙ (let here : reply_of f.server c x ≡ answer f.server x = rw none refl in here))
+    of_refusal (Some why) some = absurd (let here : reply_of f.server c x ≡ reply.Refused why = rw some refl in let not_ : reply.Status p s ≡ reply.Refused why = a.same ∙ here in cc)
+status_known plan f c x p s is known (inr q) = absurd (let not_ : reply.Status p s ≡ reply.Quiet = q.same in cc)
 
 console_in_range : (plan : Plan) (f : Facts) (e : Entry) (k : Console) → AreScripts plan.commands → Ranged f → May plan f e → InRange k → InRange (console_with e k)
 console_in_range plan f (entry.Start c p m n args) k are r may is = record {
-  own = All-push IsNumber k.own p is.own (let number = may.rule.number in let few = may.rule.few in omega arith);
+  own = All-push IsNumber k.own p is.own (let number = may.rule.number in let few = start_few plan f c p m n args may in omega arith);
   last = is.last;
 }
 console_in_range plan f (entry.Served c x (reply.Status p s)) k are r may is = record {
   own = is.own;
-  last = status_known plan f c x p s (next_in_range plan f c x are r (next_command plan f (entry.Served c x (reply.Status p s)) c x may refl).call) may.rule.answer;
+  last = status_known plan f c x p s (next_in_range plan f c x are r (next_command plan f (entry.Served c x (reply.Status p s)) c x may refl).call) may.rule.known may.rule.answer;
 }
 console_in_range plan f (entry.Served c x reply.Ok) k are r may is = record { own = is.own; last = is.last }
 console_in_range plan f (entry.Served c x (reply.Refused why)) k are r may is = record { own = is.own; last = is.last }

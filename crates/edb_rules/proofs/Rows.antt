@@ -14,19 +14,24 @@ use Rattle.edb_lang.specs.declared.small.BreakRow.{BreakRow}
 use Rattle.edb_lang.specs.declared.small.Status.{Status}
 use Rattle.edb_lang.specs.declared.small.Status.TheVariants.{Active, Inactive}
 use Rattle.edb_breaks.specs.Table.{Table, is_at, new_row, with_row, is_row, has_row, enabled_row, with_enabled}
-use Rattle.edb_event.specs.declared.call.Call.{Call}
 use Rattle.edb_event.specs.declared.call.Call.TheVariants as command
+use Rattle.edb_event.specs.declared.entry.Cause.{Cause}
+use Rattle.edb_event.specs.declared.entry.Cause.TheVariants as cause
 use Rattle.edb_event.specs.declared.entry.Entry.{Entry}
 use Rattle.edb_event.specs.declared.entry.Entry.TheVariants as entry
 use Rattle.edb_rules.specs.Plans.{Plan}
-use Rattle.edb_rules.specs.Facts.{Server, Handout, Debuggee, Facts, at_first, debuggee_at}
+use Rattle.edb_rules.specs.Facts.{Handout, OwedTrigger, Debuggee, Facts, at_first, debuggee_at}
+use Rattle.edb_rules.specs.Server.{Server}
 use Rattle.edb_rules.specs.Slices.{if_active, row_among}
-use Rattle.edb_rules.specs.Replies.{server_by, is_accepted}
+use Rattle.edb_rules.specs.TableEdits.{triggered}
+use Rattle.edb_rules.specs.Replies.{is_accepted}
+use Rattle.edb_rules.specs.Called.{called}
 use Rattle.edb_rules.specs.Orders.{order_of}
-use Rattle.edb_rules.specs.Notes.{triggered, debuggee_with, note, facts}
+use Rattle.edb_rules.specs.Notes.{owed_for, owed_by, debuggee_with, note, facts}
 use Rattle.edb_rules.specs.Legal.{May, Legal}
-use Rattle.edb_rules.proofs.Entries.{kept_at}
+use Rattle.edb_rules.proofs.Entries.{kept_from, legal_take}
 use Rattle.edb_rules.proofs.Changes.{each, order_keeps, act_keeps}
+use Rattle.edb_rules.proofs.Made.{kept_if, table_kept, did_table}
 
 -- the row has the action `enable`, and the table has one at its place with its serial
 pub record IsKnownRow (u : Table) (r : BreakRow) : Type 0 where
@@ -103,24 +108,34 @@ record Grows (t u : Table) : Type 0 where
 stays : (t : Table) → IsKnown t t.rows → Grows t t
 stays t known = record { kept = λ serial m l has. has; known = known }
 
-triggered_grows : (a : Action) (serial : ℕ) (m : List ℕ) (l : ℕ) (t : Table) → IsKnown t t.rows → Grows t (triggered a serial m l t)
-triggered_grows action.Enable serial m l t known = record { kept = enabled_kept serial m l t; known = enabled_known serial m l t known }
-triggered_grows _ serial m l t known = stays t known
+triggered_grows : (a : Action) (serial : ℕ) (m : List ℕ) (l : ℕ) (t : Table) → a ≡ action.Enable → IsKnown t t.rows → Grows t (triggered a serial m l t)
+triggered_grows a serial m l t is known =
+    subst (λ (b : Action). Grows t (triggered b serial m l t)) (sym is) (record { kept = enabled_kept serial m l t; known = enabled_known serial m l t known })
 
-called_grows : (c : ℕ) (x : Call) (s : Server) → IsKnown s.table s.table.rows → Grows s.table (server_by c x s).table
-called_grows c (command.Ib m l) s known = record { kept = row_kept m l s.table; known = row_known m l s.table known }
-called_grows c (command.Ii m) s known = stays s.table known
-called_grows c (command.Ia p) s known = stays s.table known
-called_grows c _ s known = stays s.table known
+-- what a change that keeps the table makes of it
+same_grows : (t u : Table) → u ≡ t → IsKnown t t.rows → Grows t u
+same_grows t u same known = subst (Grows t) (sym same) (stays t known)
 
-served_grows : (b : Bool) (c : ℕ) (x : Call) (s : Server) → IsKnown s.table s.table.rows → Grows s.table (if b then server_by c x s else s).table
-served_grows true c x s known = called_grows c x s known
-served_grows false c x s known = stays s.table known
+ib_grows : (b : Bool) (c : ℕ) (m : List ℕ) (l : ℕ) (s : Server) → IsKnown s.table s.table.rows → Grows s.table (if b then called s c (command.Ib m l) else s).table
+ib_grows true c m l s known = record { kept = row_kept m l s.table; known = row_known m l s.table known }
+ib_grows false c m l s known = stays s.table known
 
-grows : (plan : Plan) (f : Facts) (e : Entry) → IsKnown f.server.table f.server.table.rows → Grows f.server.table (note plan f e).server.table
-grows plan f (entry.Trigger p m l serial a applied) known = triggered_grows a serial m l f.server.table known
-grows plan f (entry.Served c x r) known = served_grows (is_accepted r) c x f.server known
-grows plan f _ known = stays f.server.table known
+-- a trigger that is owed has the action `enable`
+abbrev pub OwesEnable : Debuggee → Type 0
+OwesEnable d = (o : OwedTrigger) → d.owed ≡ Some o → o.action ≡ action.Enable
+
+abbrev pub AreOwed : Facts → Type 0
+AreOwed f = (q : ℕ) → OwesEnable (debuggee_at f q)
+
+grows : (plan : Plan) (f : Facts) (e : Entry) → AreOwed f → May plan f e → IsKnown f.server.table f.server.table.rows → Grows f.server.table (note plan f e).server.table
+grows plan f (entry.Trigger p m l serial a applied) owed may known = triggered_grows a serial m l f.server.table (owed p _ may.rule.owed) known
+grows plan f (entry.Served c (command.Ib m l) r) owed may known = ib_grows (is_accepted r) c m l f.server known
+grows plan f (entry.Served c x r) owed may known =
+    same_grows f.server.table _ (kept_if (λ (s : Server). s.table) (is_accepted r) (called f.server c x) f.server (table_kept f.server c x may.rule.known refl)) known
+grows plan f (entry.Did p k v bytes) owed may known = same_grows f.server.table _ (did_table plan f p k v bytes) known
+grows plan f (entry.Skip c p) owed may known = absurd may.rule
+grows plan f (entry.Signal p r) owed may known = absurd may.rule
+grows plan f _ owed may known = stays f.server.table known
 
 -- what is handed out is the server's, or what was handed out before
 handed_known : (plan : Plan) (f : Facts) (e : Entry) (q : ℕ) → AreKnown f → IsKnown f.server.table (debuggee_at (note plan f e) q).handout.rows
@@ -139,19 +154,14 @@ handed_known plan f e q a =
     with_known f (entry.Signal p None) d table k = k
     with_known f _ d table k = k
 
-known_step : (plan : Plan) (f : Facts) (e : Entry) → AreKnown f → May plan f e → AreKnown (note plan f e)
-known_step plan f e a may =
-    let g = grows plan f e a.0 in
+known_step : (plan : Plan) (f : Facts) (e : Entry) → AreOwed f → AreKnown f → May plan f e → AreKnown (note plan f e)
+known_step plan f e owed a may =
+    let g = grows plan f e owed may a.0 in
     (g.known, λ q. more f.server.table (note plan f e).server.table (debuggee_at (note plan f e) q).handout.rows g.kept (handed_known plan f e q a))
 
 first_known : (plan : Plan) (q : ℕ) → (debuggee_at (at_first plan) q).handout.rows ≡ []
 first_known plan zero = refl
 first_known plan (suc n) = refl
-
-pub known_at : (plan : Plan) (journal : List Entry) (k : ℕ) → Legal plan journal → AreKnown (facts plan (take k journal))
-known_at plan journal k legal =
-    kept_at plan AreKnown (known_step plan)
-    (All-nil _, λ q. subst (λ (rs : List BreakRow). IsKnown (at_first plan).server.table rs) (sym (first_known plan q)) (All-nil _)) journal k legal
 
 -- The breakpoint has the action `enable`, and the table lists one at the place with its serial.
 abbrev pub IsListed : Table → List ℕ → ℕ → Break → Type 0
@@ -172,6 +182,44 @@ found_row u m l [] b known is = absurd (none-some b is)
 found_row u m l (r ∷ rs) b known is =
     found_here u m l r (find (is_at m l) rs) b (is_at m l r) refl (All-head (IsKnownRow u) r rs known)
     (found_row u m l rs b (All-tail (IsKnownRow u) r rs known)) is
+
+-- what a stop owes has the action of the row that was taken in
+owed_enable : (t : Table) (m : List ℕ) (l : ℕ) (rows : List BreakRow) (by : Cause) (o : OwedTrigger) → IsKnown t rows → owed_by rows m l by ≡ Some o → o.action ≡ action.Enable
+owed_enable t m l rows cause.Order o known is = absurd (none-some o is)
+owed_enable t m l rows (cause.Break serial) o known is = of_row (row_among m l rows) refl is
+  where
+    of_row : (b : Option Break) → row_among m l rows ≡ b → option_map (owed_for m l serial) b ≡ Some o → o.action ≡ action.Enable
+    of_row None none e = absurd (none-some o e)
+    of_row (Some b) some e = sym (ap (λ (x : OwedTrigger). x.action) (same_Some (owed_for m l serial b) o e)) ∙ (found_row t m l rows b known some).0
+
+with_owed : (f : Facts) (e : Entry) (d : Debuggee) → IsKnown f.server.table d.handout.rows → OwesEnable d → OwesEnable (debuggee_with f e d)
+with_owed f (entry.Stop p m l n by) d known owes = λ o is. owed_enable f.server.table m l d.handout.rows by o known is
+with_owed f (entry.Trigger p m l s a applied) d known owes = λ o is. absurd (none-some o is)
+with_owed f (entry.Did p kk v bytes) d known owes = λ o is. owes o (sym (act_keeps (λ (x : Debuggee). x.owed) (λ x b. refl) (λ x. refl) kk d) ∙ is)
+with_owed f (entry.Served c x r) d known owes = λ o is. owes o (sym (order_keeps (λ (y : Debuggee). y.owed) (λ y m. refl) (λ y m. refl) (order_of f.plain x) d) ∙ is)
+with_owed f (entry.Signal p (Some r)) d known owes = owes
+with_owed f (entry.Signal p None) d known owes = owes
+with_owed f _ d known owes = owes
+
+owed_step : (plan : Plan) (f : Facts) (e : Entry) → AreOwed f → AreKnown f → AreOwed (note plan f e)
+owed_step plan f e owed a q =
+    each (λ (d x : Debuggee). OwesEnable d → OwesEnable x) (λ d k. k) (λ d k. k) plan f e q (λ same. with_owed f e (debuggee_at f q) (a.1 q)) (owed q)
+
+first_owed : (plan : Plan) → AreOwed (at_first plan)
+first_owed plan zero = λ o is. absurd (none-some o is)
+first_owed plan (suc n) = λ o is. absurd (none-some o is)
+
+both_are : (plan : Plan) (journal : List Entry) → Legal plan journal → AreKnown (facts plan journal) × AreOwed (facts plan journal)
+both_are plan journal legal =
+    kept_from plan (λ (f : Facts). AreKnown f × AreOwed f) (λ f e all may. (known_step plan f e all.1 all.0 may, owed_step plan f e all.1 all.0)) (at_first plan) journal
+    ((All-nil _, λ q. subst (λ (rs : List BreakRow). IsKnown (at_first plan).server.table rs) (sym (first_known plan q)) (All-nil _)), first_owed plan) legal
+
+pub known_at : (plan : Plan) (journal : List Entry) (k : ℕ) → Legal plan journal → AreKnown (facts plan (take k journal))
+known_at plan journal k legal = (both_are plan (take k journal) (legal_take plan journal k legal)).0
+
+-- a trigger that is owed after a legal journal has the action `enable`
+pub owed_is : (plan : Plan) (journal : List Entry) → Legal plan journal → AreOwed (facts plan journal)
+owed_is plan journal legal = (both_are plan journal legal).1
 
 -- what was taken in at a place has the action `enable`, and the server has it
 pub taken_row : (f : Facts) (p : ℕ) (m : List ℕ) (l : ℕ) (b : Break) → AreKnown f → row_among m l (debuggee_at f p).handout.rows ≡ Some b

@@ -12,7 +12,8 @@ use Rattle.edb_event.specs.declared.entry.Cause.{Cause}
 use Rattle.edb_event.specs.declared.entry.Entry.{Entry}
 use Rattle.edb_event.specs.declared.entry.Entry.TheVariants as entry
 use Rattle.edb_rules.specs.Plans.{Plan}
-use Rattle.edb_rules.specs.Facts.{Handout, debuggee_at, is_among}
+use Rattle.edb_rules.specs.Facts.{Handout, debuggee_at}
+use Rattle.edb_rules.specs.Server.{is_among}
 use Rattle.edb_rules.specs.Slices.{after_moves, has_body, level_in, is_ordered, active_among, asked_to, Why, ordered, broken, due, SliceEnd, leaves, enters, stops, if_spent, if_due, at_next, end_at}
 use Rattle.edb_rules.specs.SliceEnds.{cause_of}
 use Rattle.edb_rules.specs.Notes.{facts}

@@ -13,7 +13,8 @@ use Rattle.edb_event.specs.declared.entry.Entry.TheVariants as entry
 use Rattle.edb_event.specs.Weights.{weight}
 use Rattle.edb_lang.specs.Syntax.{ModuleTree}
 use Rattle.edb_rules.specs.Plans.{Plan}
-use Rattle.edb_rules.specs.Facts.{Handout, Debuggee, Facts, at_first, no_handout, debuggee_at, is_among}
+use Rattle.edb_rules.specs.Facts.{Handout, Debuggee, Facts, at_first, no_handout, debuggee_at}
+use Rattle.edb_rules.specs.Server.{is_among}
 use Rattle.edb_rules.specs.Slices.{leaves, act_next, enters, stops, spent, Why, due, asked_to, if_spent, if_due, at_next, end_at, after_moves}
 use Rattle.edb_rules.specs.Notes.{process_in, leased, note, facts}
 use Rattle.edb_rules.specs.Legal.{May, Legal}

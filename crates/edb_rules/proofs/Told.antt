@@ -102,7 +102,7 @@ act_stopped true _ d = refl
 act_stopped false k d = refl
 
 -- the process that a command lets go on is no more stopped
-resumed_stopped : (m : Mode) (d : Debuggee) (b : Bool) → d.is_stopped ≡ b → (with_order (resumes m) d).is_stopped ≡ false
+pub resumed_stopped : (m : Mode) (d : Debuggee) (b : Bool) → d.is_stopped ≡ b → (with_order (resumes m) d).is_stopped ≡ false
 resumed_stopped m d true is = rw is refl
 resumed_stopped m d false is = rw is refl
 

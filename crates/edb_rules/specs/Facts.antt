@@ -1,30 +1,17 @@
 -- The facts that the rules of a journal look at.
 
 use Rattle.std.specs.Prelude.{ℕ, Bool, false, List, [], Option, None, replicate}
-use Rattle.std.specs.List.{list_any}
 use Rattle.edb_lang.specs.declared.act.ActKind.{ActKind}
 use Rattle.edb_lang.specs.declared.small.Action.{Action}
 use Rattle.edb_lang.specs.declared.small.BreakRow.{BreakRow}
-use Rattle.edb_lang.specs.TermText.{same_name}
-use Rattle.edb_breaks.specs.Table.{Table, empty_table}
 use Rattle.edb_frames.specs.declared.mode.Mode.{Mode}
 use Rattle.edb_frames.specs.declared.mode.Mode.TheVariants.{Run as RunOn}
 use Rattle.edb_model.specs.Plain.{Plain, opening}
 use Rattle.edb_model.specs.Procs.{numbered}
 use Rattle.edb_event.specs.declared.call.AutoFlag.{AutoFlag}
 use Rattle.edb_event.specs.declared.entry.Entry.{Entry}
+use Rattle.edb_rules.specs.Server.{Server, first_server}
 use Rattle.edb_rules.specs.Plans.{Plan}
-
--- The interpreter server: the table of breakpoints; the interpreted modules, in the order in which they came; the flags
--- by which a console is attached by itself; and the processes that a console is attached to, each with that console.
-pub record Server : Type 0 where
-  pub table : Table
-  pub interpreted : List (List ℕ)
-  pub flags : List AutoFlag
-  pub attached : List (ℕ × ℕ)
-
-abbrev pub first_server : Server
-first_server = record { table = empty_table; interpreted = []; flags = []; attached = [] }
 
 -- A console: how many of its commands were answered; the processes that its own starts made, in order; and the process
 -- of its last await that was answered by a status, 0 if none was.
@@ -125,20 +112,20 @@ pub record Facts : Type 0 where
   pub turn : ℕ
   pub coming : List Entry
   pub weight : ℕ
-  pub is_over : Bool
+  pub has_quit : Bool
 
 -- before the first entry
 abbrev pub at_first : Plan → Facts
 at_first plan =
     record {
       plain = opening plan.code;
-      server = first_server;
+      server = first_server plan.code;
       debuggees = [];
       consoles = replicate 8 new_console;
       turn = 0;
       coming = [];
       weight = 0;
-      is_over = false;
+      has_quit = false;
     }
 
 -- what is known of process p
@@ -148,7 +135,3 @@ debuggee_at f p = numbered unseen f.debuggees p
 -- the console of a number
 abbrev pub console_at : Facts → ℕ → Console
 console_at f c = numbered new_console f.consoles c
-
--- whether a module is among these
-abbrev pub is_among : List ℕ → List (List ℕ) → Bool
-is_among m ms = list_any (same_name m) ms

@@ -9,7 +9,6 @@ use Rattle.edb_breaks.specs.Table.{has_row}
 use Rattle.edb_model.specs.Running.{Run}
 use Rattle.edb_model.specs.Plain.{Plain, running_at}
 use Rattle.edb_model.specs.Labels.{steps}
-use Rattle.edb_model.specs.Procs.{most_processes}
 use Rattle.edb_event.specs.declared.call.Call.{Call}
 use Rattle.edb_event.specs.declared.call.Call.TheVariants as command
 use Rattle.edb_event.specs.declared.reply.Reply.{Reply}
@@ -21,31 +20,33 @@ use Rattle.edb_rules.specs.Erasure.{labels_of}
 use Rattle.edb_rules.specs.Plans.{Plan}
 use Rattle.edb_rules.specs.Facts.{Facts, at_first, debuggee_at}
 use Rattle.edb_rules.specs.Slices.{SliceEnd, IsSlice}
-use Rattle.edb_rules.specs.Replies.{next_call, is_enabled, is_served, refused, reply_to}
+use Rattle.edb_rules.specs.Replies.{next_call, is_enabled, is_served}
+use Rattle.edb_rules.specs.Refusals.{refused}
+use Rattle.edb_rules.specs.Answers.{reply_of}
 use Rattle.edb_rules.specs.Turns.{Act, leases, does, turn_of, IsFirst}
 use Rattle.edb_rules.specs.Ranks.{MayBegin, AtCommand, AtTurn, AtClock, AtQuiet, NoLease, IsNext, next_deadline}
 use Rattle.edb_rules.specs.Notes.{note}
 
--- a console's next command starts a process
+-- a console's next command, a start that isn't refused, makes the next process
 pub record MayStart (plan : Plan) (f : Facts) (c p : ℕ) (m n : List ℕ) (args : Datum) : Type 0 where
   pub at : AtCommand plan f
   pub next : IsNext plan f c (command.Start m n args)
   pub number : p ≡ length f.plain.running + 1
-  pub few : length f.plain.running < most_processes
+  pub allowed : refused f.server c (command.Start m n args) ≡ None
 
 -- a console's next command, which has an entry of its own where it is accepted, is accepted
 pub record MayDo (plan : Plan) (f : Facts) (c : ℕ) (x : Call) : Type 0 where
   pub at : AtCommand plan f
   pub next : IsNext plan f c x
   pub known : is_served x ≡ true
-  pub allowed : refused plan f c x ≡ None
+  pub allowed : refused f.server c x ≡ None
 
 -- a console's next command is enabled, and is answered by its reply
 pub record IsAnswered (plan : Plan) (f : Facts) (c : ℕ) (x : Call) (r : Reply) : Type 0 where
   pub at : AtCommand plan f
   pub next : IsNext plan f c x
   pub enabled : is_enabled f x ≡ true
-  pub same : r ≡ reply_to plan f c x
+  pub same : r ≡ reply_of f.server c x
 
 -- Nothing can come but what awaits: of the consoles that have a command left, the least one's is answered `quiet`.
 pub record IsQuiet (plan : Plan) (f : Facts) (c : ℕ) (x : Call) (r : Reply) : Type 0 where
@@ -173,10 +174,10 @@ IsOneHanded plan journal = JudgedFrom MayAlone plan (at_first plan) journal
 pub record IsLimit (plan : Plan) (f : Facts) : Type 0 where
   pub full : plan.weight_limit ≤ f.weight
   pub whole : f.coming ≡ []
-  pub no_quit : f.is_over ≡ false
+  pub no_quit : f.has_quit ≡ false
 
 pub record HasQuit (f : Facts) : Type 0 where
-  pub quit : f.is_over ≡ true
+  pub quit : f.has_quit ≡ true
   pub whole : f.coming ≡ []
 
 pub record IsThrough (plan : Plan) (f : Facts) : Type 0 where

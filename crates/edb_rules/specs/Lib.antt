@@ -1,5 +1,14 @@
 pub mod Erasure
+pub mod Agrees
 pub mod Plans
+pub mod Seen
+pub mod Server
+pub mod TableEdits
+pub mod Refusals
+pub mod ServerRows
+pub mod Answers
+pub mod Called
+pub mod Noted
 pub mod Facts
 pub mod Consoles
 pub mod Conditions
@@ -7,6 +16,7 @@ pub mod Slices
 pub mod SliceEnds
 pub mod Turns
 pub mod Replies
+pub mod News
 pub mod Orders
 pub mod Notes
 pub mod Ranks

@@ -2,18 +2,19 @@
 
 use Rattle.std.specs.Prelude.{ℕ, true, if◌then◌else◌, List, [], ◌∷◌, ◌++◌}
 use Rattle.std.specs.List.{fold}
-use Rattle.edb_lang.specs.declared.small.Action.TheVariants as action
-use Rattle.edb_breaks.specs.Table.{Table, empty_table, with_row, with_enabled}
+use Rattle.edb_breaks.specs.Table.{Table, empty_table, with_row}
+use Rattle.edb_rules.specs.TableEdits.{triggered}
 use Rattle.edb_event.specs.declared.call.Call.TheVariants as command
 use Rattle.edb_event.specs.declared.reply.Reply.TheVariants as reply
 use Rattle.edb_event.specs.declared.entry.Entry.{Entry}
 use Rattle.edb_event.specs.declared.entry.Entry.TheVariants as entry
-use Rattle.edb_rules.specs.Facts.{is_among}
+use Rattle.edb_rules.specs.Server.{is_among}
 
--- an `ib` that was done adds a row; a trigger `enable` that was applied makes its row active; all else leaves the table
+-- an `ib` that was done adds a row; a trigger that was applied makes its row active or inactive, or takes it out; all else
+-- leaves the table
 abbrev pub table_with : Table → Entry → Table
 table_with t (entry.Served c (command.Ib m l) reply.Ok) = with_row m l t
-table_with t (entry.Trigger p m l serial action.Enable true) = with_enabled serial m l t
+table_with t (entry.Trigger p m l serial a true) = triggered a serial m l t
 table_with t _ = t
 
 abbrev pub table_of : List Entry → Table

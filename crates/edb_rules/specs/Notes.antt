@@ -4,11 +4,8 @@ use Rattle.std.specs.Prelude.{ℕ, ◌+◌, Bool, true, false, if◌then◌else�
 use Rattle.std.specs.Option.{option_map}
 use Rattle.edb_lang.specs.declared.act.ActKind.{ActKind}
 use Rattle.edb_lang.specs.declared.act.ActKind.TheVariants as kind
-use Rattle.edb_lang.specs.declared.small.Action.{Action}
-use Rattle.edb_lang.specs.declared.small.Action.TheVariants as action
 use Rattle.edb_lang.specs.declared.small.Break.{Break}
 use Rattle.edb_lang.specs.declared.small.BreakRow.{BreakRow}
-use Rattle.edb_breaks.specs.Table.{Table, with_enabled}
 use Rattle.edb_frames.specs.declared.mode.Mode.{Mode}
 use Rattle.edb_frames.specs.declared.mode.Mode.TheVariants as mode
 use Rattle.edb_model.specs.Plain.{Plain}
@@ -22,11 +19,12 @@ use Rattle.edb_event.specs.declared.entry.Entry.TheVariants as entry
 use Rattle.edb_event.specs.Weights.{weight_of}
 use Rattle.edb_rules.specs.Erasure.{labels_of}
 use Rattle.edb_rules.specs.Plans.{Plan}
-use Rattle.edb_rules.specs.Facts.{Server, Handout, OwedTrigger, Debuggee, Facts, at_first, unseen, debuggee_at}
+use Rattle.edb_rules.specs.Facts.{Handout, OwedTrigger, Debuggee, Facts, at_first, unseen, debuggee_at}
 use Rattle.edb_rules.specs.Consoles.{consoles_with}
 use Rattle.edb_rules.specs.Slices.{row_among, has_init}
 use Rattle.edb_rules.specs.SliceEnds.{coming_after}
-use Rattle.edb_rules.specs.Replies.{server_by, is_accepted}
+use Rattle.edb_rules.specs.Replies.{is_accepted}
+use Rattle.edb_rules.specs.News.{server_with}
 use Rattle.edb_rules.specs.Orders.{order_of, ordered_process, with_order}
 
 -- THE PLAIN STATE makes the steps that the entry stands for.
@@ -41,17 +39,6 @@ turn_with t (entry.Did p k v bytes) = p
 turn_with t (entry.Took p) = p
 turn_with t (entry.Forward p) = p
 turn_with t _ = t
-
--- THE SERVER. What a trigger does to the table: `enable` makes the row of this serial active. No row has another action yet.
-abbrev pub triggered : Action → ℕ → List ℕ → ℕ → Table → Table
-triggered action.Enable serial m l t = with_enabled serial m l t
-triggered _ serial m l t = t
-
--- a trigger changes the table; a command that was accepted changes what it is for
-abbrev pub server_with : Server → Entry → Server
-server_with s (entry.Trigger p m l serial a applied) = record s { table = triggered a serial m l s.table }
-server_with s (entry.Served c x r) = if is_accepted r then server_by c x s else s
-server_with s _ = s
 
 -- WHAT IS KNOWN OF A PROCESS. The one of which an entry changes something; 0 if of none.
 abbrev pub process_in : Entry → ℕ
@@ -183,13 +170,13 @@ abbrev pub note : Plan → Facts → Entry → Facts
 note plan f e =
     record {
       plain = plain_with plan f.plain e;
-      server = server_with f.server e;
+      server = server_with f.server f.plain (plain_with plan f.plain e) e;
       debuggees = debuggees_with plan f e;
       consoles = consoles_with f.consoles e;
       turn = turn_with f.turn e;
       coming = coming_with plan f e;
       weight = f.weight + weight_of e;
-      is_over = f.is_over || is_quit e;
+      has_quit = f.has_quit || is_quit e;
     }
 
 abbrev pub after : Plan → Facts → List Entry → Facts

@@ -14,7 +14,7 @@ use Rattle.edb_rules.specs.Turns.{turn_of}
 pub record MayBegin (plan : Plan) (f : Facts) : Type 0 where
   pub light : f.weight < plan.weight_limit
   pub whole : f.coming ≡ []
-  pub no_quit : f.is_over ≡ false
+  pub no_quit : f.has_quit ≡ false
 
 -- a command may be answered: no trigger is owed
 pub record AtCommand (plan : Plan) (f : Facts) : Type 0 where

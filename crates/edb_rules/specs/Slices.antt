@@ -18,7 +18,8 @@ use Rattle.edb_model.specs.Running.{Info, Run}
 use Rattle.edb_model.specs.Innermost.{innermost}
 use Rattle.edb_model.specs.Move.{Next, begins, acts, pure, next, moved, redex}
 use Rattle.edb_rules.specs.Conditions.{Asked, ask}
-use Rattle.edb_rules.specs.Facts.{Handout, is_among}
+use Rattle.edb_rules.specs.Facts.{Handout}
+use Rattle.edb_rules.specs.Server.{is_among}
 
 -- the expression after n moves
 abbrev pub after_moves : List ModuleTree → List (List ℕ × ℕ) → ℕ → Run → Run

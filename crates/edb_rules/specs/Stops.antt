@@ -9,7 +9,8 @@ use Rattle.edb_model.specs.Plain.{Plain, running_at}
 use Rattle.edb_event.specs.declared.entry.Cause.{Cause}
 use Rattle.edb_event.specs.declared.entry.Cause.TheVariants as cause
 use Rattle.edb_rules.specs.Plans.{Plan}
-use Rattle.edb_rules.specs.Facts.{Handout, Facts, debuggee_at, is_among}
+use Rattle.edb_rules.specs.Facts.{Handout, Facts, debuggee_at}
+use Rattle.edb_rules.specs.Server.{is_among}
 use Rattle.edb_rules.specs.Slices.{mode_of, active_among, has_body, due, end_at, after_moves}
 
 -- By what a process took in, a beginning at this module and line in a call of this level was due at the breakpoint with this

@@ -14,9 +14,10 @@ ghost use Rattle.edb_lang.specs.Terms.{Datum};
 ghost use Rattle.edb_rules.specs.PlainRuns.{StartsOnce};
 ghost use Rattle.edb_rules.specs.Plans.{Plan};
 ghost use Rattle.edb_rules.specs.Facts.{debuggee_at, console_at};
+ghost use Rattle.edb_rules.specs.Agrees.{AgreesOn};
 ghost use Rattle.edb_rules.specs.Consoles.{command_of};
 ghost use Rattle.edb_rules.specs.Slices.{Why, due, has_body, level_in};
-ghost use Rattle.edb_rules.specs.Facts.{is_among};
+ghost use Rattle.edb_rules.specs.Server.{is_among, is_made};
 ghost use Rattle.edb_rules.specs.SliceEnds.{cause_of, enter_entry};
 ghost use Rattle.edb_rules.specs.Turns.{Turn, turn_of, IsSooner};
 ghost use Rattle.edb_rules.specs.Ranks.{AtQuiet, IsWaiting};
@@ -183,6 +184,19 @@ pub fn the_table_is_what_was_made()
     ensures table { (plan : Plan) (journal : List Entry) → Legal plan journal → (facts plan journal).server.table ≡ table_of journal }
     ensures modules { (plan : Plan) (journal : List Entry) → Legal plan journal → (facts plan journal).server.interpreted ≡ modules_of journal }
     ensures attached { (plan : Plan) (journal : List Entry) → Legal plan journal → (facts plan journal).server.attached ≡ attached_of journal }
+{}
+
+/// The server agrees with the facts of each legal journal. It has the modules, the current versions of the plain state, and each
+/// process that was made and no other. What it has seen of a process is what is: whether a meta process interprets it, where it
+/// is stopped, whether it lives, and the text of its reason. A stop that it has seen is where the process stands, with the frames
+/// of what that has to do.
+pub fn the_server_agrees()
+    ensures code { (plan : Plan) (journal : List Entry) → Legal plan journal → (facts plan journal).server.code ≡ plan.code }
+    ensures versions { (plan : Plan) (journal : List Entry) → Legal plan journal → (facts plan journal).server.current ≡ (facts plan journal).plain.versions }
+    ensures count { (plan : Plan) (journal : List Entry) → Legal plan journal → (facts plan journal).server.made ≡ length (facts plan journal).plain.running }
+    ensures made { (plan : Plan) (journal : List Entry) (p : ℕ) → Legal plan journal → 1 ≤ p → p ≤ length (facts plan journal).plain.running → is_made (facts plan journal).server p ≡ true }
+    ensures only { (plan : Plan) (journal : List Entry) (p : ℕ) → Legal plan journal → is_made (facts plan journal).server p ≡ true → (1 ≤ p) × (p ≤ length (facts plan journal).plain.running) }
+    ensures processes { (plan : Plan) (journal : List Entry) (p : ℕ) → Legal plan journal → AgreesOn (facts plan journal) p }
 {}
 
 /// A Stop in a legal journal tells the level of the innermost Body of its process there, and an Enter the module, name

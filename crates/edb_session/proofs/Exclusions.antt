@@ -81,7 +81,7 @@ one_plan module_ listing n old new p q a b =
 
 -- below the greatest weight, and not below it
 not_both : (p : Plan) (f : Facts) → IsDone p f → IsLimit p f → ⊥
-not_both p f (inl quit) limit = both_ways f.is_over limit.no_quit quit.quit
+not_both p f (inl quit) limit = both_ways f.has_quit limit.no_quit quit.quit
 not_both p f (inr done) limit = omega (arith, done.at.at.at.at.at.begin.light, limit.full)
 
 module _ (names : Option Names) (old new : List Read) (before now sink_before sink_now : ℕ) (journal : List Entry) (left : Tables) (had has : Option (List ℕ)) (was is : Bool) where

@@ -16,6 +16,8 @@ use Rattle.edb_model.specs.Plain as model
 use Rattle.edb_event.specs.declared.entry.Entry.TheVariants as entry
 use Rattle.edb_rules.specs.Plans.{Plan}
 use Rattle.edb_rules.specs.Facts.{Debuggee, Facts, debuggee_at}
+use Rattle.edb_rules.specs.Server.{Server}
+use Rattle.edb_rules.specs.Noted as news
 use Rattle.edb_rules.specs.Turns.{Act, does, act_of, turn_of, IsFirst}
 use Rattle.edb_rules.specs.Ranks.{AtTurn}
 use Rattle.edb_rules.specs.Notes.{acted_debuggee, ended_debuggee}
@@ -79,7 +81,7 @@ answered_is o t q v is there = subst (λ (x : Option Run). IsSomeAnd x (λ u. q 
 
 -- the state after each, by what stands at the process's place in each list
 pub print_noted : (k new : Known) (p : ℕ) (t : Run) (value bytes : List ℕ) (d e : Debuggee) (q : Option Run)
-    → 1 ≤ p → running_at k p ≡ Some t → next t ≡ acts kind.Print → k.facts.is_over ≡ false
+    → 1 ≤ p → running_at k p ≡ Some t → next t ≡ acts kind.Print → k.facts.has_quit ≡ false
     → debuggee_at k.facts p ≡ d → e ≡ acted_debuggee kind.Print d → q ≡ Some (answered true_term t) → bytes ≡ displayed (redex t).1
     → new ≡ record k {
       facts = record k.facts {
@@ -95,13 +97,14 @@ print_noted k new (suc i) t value bytes d e q some lives is open_ known after ne
     let back : suc i - 1 ≡ i = omega arith in
     same ∙ rw (back, next_, printed, after, ← known, lives, is, open_) refl
 
-pub end_noted : (k new : Known) (p : ℕ) (t : Run) (value : List ℕ) (m : Member) (d e : Debuggee) (q : Option Run) (n : Member)
-    → 1 ≤ p → running_at k p ≡ Some t → next t ≡ acts kind.End → k.facts.is_over ≡ false
+pub end_noted : (k new : Known) (p : ℕ) (t : Run) (value : List ℕ) (m : Member) (d e : Debuggee) (q : Option Run) (n : Member) (s : Server)
+    → 1 ≤ p → running_at k p ≡ Some t → next t ≡ acts kind.End → k.facts.has_quit ≡ false
     → k.facts.plain.procs.names ≡ [] → k.facts.plain.procs.bonds ≡ no_bonds
     → numbered new_member k.facts.plain.procs.members p ≡ m → n ≡ ended_member (exit_reason t) m
-    → debuggee_at k.facts p ≡ d → e ≡ ended_debuggee d → q ≡ None
+    → debuggee_at k.facts p ≡ d → e ≡ ended_debuggee d → q ≡ None → s ≡ news.noted k.facts.server (news.ended p value)
     → new ≡ record k {
       facts = record k.facts {
+        server = s;
         debuggees = slice_set k.facts.debuggees (p - 1) e;
         turn = p;
         weight = k.facts.weight + 1;
@@ -112,10 +115,10 @@ pub end_noted : (k new : Known) (p : ℕ) (t : Run) (value : List ℕ) (m : Memb
       };
     }
     → new ≡ noted k (entry.Did p kind.End value [])
-end_noted k new zero t value m d e q n some lives is open_ names bonds member ends known after none same = absurd (omega (arith, some))
-end_noted k new (suc i) t value m d e q n some lives is open_ names bonds member ends known after none same =
+end_noted k new zero t value m d e q n s some lives is open_ names bonds member ends known after none told same = absurd (omega (arith, some))
+end_noted k new (suc i) t value m d e q n s some lives is open_ names bonds member ends known after none told same =
     let back : suc i - 1 ≡ i = omega arith in
-    same ∙ rw (back, none, ends, ← member, after, ← known, lives, is, open_, names, bonds) refl
+    same ∙ rw (back, none, told, ends, ← member, after, ← known, lives, is, open_, names, bonds) refl
 
 -- the entry of an act of the process that has the turn may stand
 pub act_may : (plan : Plan) (f : Facts) (p : ℕ) (k : ActKind) (acting : IsActing f p k) → AtTurn plan f → IsFirst f p → May plan f (act_entry p acting.act)

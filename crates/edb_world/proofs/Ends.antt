@@ -6,7 +6,8 @@ use Rattle.std.proofs.lemmas.Option.{none-some}
 use Rattle.edb_lang.specs.Syntax.{ModuleTree}
 use Rattle.edb_model.specs.Running.{Run}
 use Rattle.edb_model.specs.Move.{Next, acts, begins, pure, next, is_move}
-use Rattle.edb_rules.specs.Facts.{Handout, is_among}
+use Rattle.edb_rules.specs.Facts.{Handout}
+use Rattle.edb_rules.specs.Server.{is_among}
 use Rattle.edb_rules.specs.Slices.{SliceEnd, leaves, act_next, enters, stops, spent, Why, due, if_spent, if_due, at_next, has_body, asked_to, end_before, after_moves, IsSlice}
 use Rattle.edb_rules.proofs.Stops.{else_none}
 

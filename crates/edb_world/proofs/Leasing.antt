@@ -25,7 +25,7 @@ taking d h =
     }
 
 pub lease_noted : (k new : Known) (p b : ℕ) (d e : Debuggee) (h : Handout) → 1 ≤ p → debuggee_at k.facts p ≡ d
-    → h ≡ handout_now k.facts b (debuggee_at k.facts p) → e ≡ taking d h → k.facts.is_over ≡ false
+    → h ≡ handout_now k.facts b (debuggee_at k.facts p) → e ≡ taking d h → k.facts.has_quit ≡ false
     → new ≡ record k { facts = record k.facts { debuggees = slice_set k.facts.debuggees (p - 1) e; turn = p; weight = k.facts.weight + 1 } }
     → new ≡ noted k (entry.Lease p b)
 lease_noted k new zero b d e h some known made after open_ same = absurd (omega (arith, some))

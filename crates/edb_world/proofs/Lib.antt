@@ -1,4 +1,3 @@
-pub mod BindingRows
 pub mod Conditions
 pub mod Calm
 pub mod Ranking
@@ -16,3 +15,4 @@ pub mod Shallow
 pub mod Ending
 pub mod Running
 pub mod Finishing
+pub mod Telling

@@ -121,7 +121,7 @@ ran k p t n w = record k {
 }
 
 pub ran_noted : (k : Known) (p : ℕ) (t : Run) (n w : ℕ) (end : SliceEnd) → running_at k p ≡ Some t
-    → (debuggee_at k.facts p).handout.versions ≡ k.facts.plain.versions → k.facts.is_over ≡ false
+    → (debuggee_at k.facts p).handout.versions ≡ k.facts.plain.versions → k.facts.has_quit ≡ false
     → IsSlice k.plan.code (debuggee_at k.facts p).handout p t n 0 end
     → w ≡ k.facts.weight + max 1 (n + 0)
     → ran k p t n w ≡ coming [] (noted k (entry.Ran p n 0))
@@ -144,7 +144,7 @@ placed k (suc n) q d w some = let e : suc n - 1 ≡ n = omega arith in rw e refl
 
 pub slice_at : (k new : Known) (p : ℕ) (t : Run) (s : Slice) (w : ℕ) (code : List ModuleTree) (d e : Debuggee) (r : Option Run)
     → 1 ≤ p → running_at k p ≡ Some t → debuggee_at k.facts p ≡ d → code ≡ k.plan.code → (debuggee_at k.facts p).handout.versions ≡ k.facts.plain.versions
-    → k.facts.is_over ≡ false → MakesSlice code d.handout p t s
+    → k.facts.has_quit ≡ false → MakesSlice code d.handout p t s
     → r ≡ Some (after_moves code d.handout.versions s.moves t)
     → e ≡ ran_with d s.moves
     → w ≡ k.facts.weight + max 1 (s.moves + 0)

@@ -1,9 +1,9 @@
 -- Each entry of a turn may stand: a trigger's, a command's, and an act's.
 
-use Rattle.std.proofs.Common.{◌≡◌, inl, inr, ℕ, zero, suc, ◌+◌, ◌<◌, ◌≤◌, Bool, true, false, if◌then◌else◌, nat_lt, List, [], ◌∷◌, length, Option, Some, slice_index_or, refl, ◌∙◌, subst, arith}
+use Rattle.std.proofs.Common.{◌≡◌, inl, inr, ℕ, zero, suc, ◌+◌, ◌<◌, ◌≤◌, Bool, true, false, if◌then◌else◌, nat_lt, List, [], ◌∷◌, length, Option, Some, slice_index_or, refl, sym, ◌∙◌, ap, subst, arith}
 use Rattle.std.specs.Prelude.{IfSome}
 use Rattle.std.specs.List.{All, slice_get}
-use Rattle.std.proofs.lemmas.Bool.{ltb-true, both_ways}
+use Rattle.std.proofs.lemmas.Bool.{both_ways}
 use Rattle.std.proofs.lemmas.List.Elements.{All-nil, All-head, All-tail}
 use Rattle.std.proofs.lemmas.Option.{slice_get_within, none-some, same_Some}
 use Rattle.edb_lang.specs.declared.act.ActKind.{ActKind}
@@ -22,11 +22,14 @@ use Rattle.edb_event.specs.Books.{commands_of}
 use Rattle.edb_event.specs.Ranges.{MayAnswer}
 use Rattle.edb_rules.specs.Plans.{Plan}
 use Rattle.edb_rules.specs.Facts.{Facts, console_at}
-use Rattle.edb_rules.specs.Replies.{about, process_of, next_call, is_served, is_enabled, reply_to}
+use Rattle.edb_rules.specs.Replies.{about, process_of, next_call, is_served, is_enabled}
+use Rattle.edb_rules.specs.Answers.{reply_of}
 use Rattle.edb_rules.specs.Turns.{IsFirst}
 use Rattle.edb_rules.specs.Ranks.{MayBegin, AtCommand, AtTurn, AtQuiet, IsNext}
 use Rattle.edb_rules.specs.Legal.{May}
 use Rattle.edb_rules.proofs.Commanded.{next_stands}
+use Rattle.edb_rules.proofs.Rows.{AreOwed, owed_is}
+use Rattle.edb_rules.proofs.ServerCounts.{made_is}
 use Rattle.edb_world.specs.declared.world.World.{World}
 use Rattle.edb_world.specs.Known.{Known, command_entry, trigger_entry}
 use Rattle.edb_world.specs.Turns.{IsActing, IsLeastOwing, act_entry}
@@ -97,7 +100,7 @@ next_known plan f x all next =
     (about_served at.command.call (process_of f 1 at.command.word) ∙ at_place (commands_of 1 plan.commands) (console_at f 1).served at.command (of_first plan.commands all) at.stands)
 
 served_may : (plan : Plan) (f : Facts) (x : Call) (r : Reply) → AtCommand plan f → IsNext plan f 1 x → is_served x ≡ true
-    → is_enabled f x ≡ true → r ≡ reply_to plan f 1 x → MayAnswer x r → May plan f (entry.Served 1 x r)
+    → is_enabled f x ≡ true → r ≡ reply_of f.server 1 x → MayAnswer x r → May plan f (entry.Served 1 x r)
 served_may plan f x r at next known enabled is may =
     record {
       rule = record { answer = inl (record { at = at; next = next; enabled = enabled; same = is }); known = known; served = may };
@@ -111,35 +114,40 @@ served_stands w x r may = record { may = may; alone = λ none. none; one = refl;
 abbrev Started : Known → List ℕ → List ℕ → Datum → Bool → Entry
 Started k m n args b =
     if b then entry.Start 1 (length k.facts.plain.running + 1) m n args
-    else entry.Served 1 (command.Start m n args) (reply_to k.plan k.facts 1 (command.Start m n args))
+    else entry.Served 1 (command.Start m n args) (reply_of k.facts.server 1 (command.Start m n args))
 
-start_stands : (w : World) (m n : List ℕ) (args : Datum) (b : Bool) → nat_lt (length w.state.facts.plain.running) most_processes ≡ b
-    → AtCommand w.state.plan w.state.facts → IsNext w.state.plan w.state.facts 1 (command.Start m n args) → StandsAlone w (Started w.state m n args b)
-start_stands w m n args true room at next =
+start_stands : (w : World) (m n : List ℕ) (args : Datum) (b : Bool) → w.state.facts.server.made ≡ length w.state.facts.plain.running
+    → nat_lt w.state.facts.server.made most_processes ≡ b → AtCommand w.state.plan w.state.facts → IsNext w.state.plan w.state.facts 1 (command.Start m n args) → StandsAlone w (Started w.state m n args b)
+start_stands w m n args true made room at next =
+    let space : nat_lt (length w.state.facts.plain.running) most_processes ≡ true = ap (λ (k : ℕ). nat_lt k most_processes) (sym made) ∙ room in
     record {
       may = record {
-        rule = record { at = at; next = next; number = refl; few = ltb-true _ _ room };
+        rule = record { at = at; next = next; number = refl; allowed = rw room refl };
         plain = model.with_newborn w.state.facts.plain (opening_call m n (elements args));
-        enabled = rw room refl;
+        enabled = rw space refl;
       };
       alone = λ none. none;
       one = refl;
       whole = refl;
       other = tt;
     }
-start_stands w m n args false full at next =
+start_stands w m n args false made full at next =
     served_stands w (command.Start m n args) _ (served_may w.state.plan w.state.facts (command.Start m n args) _ at next refl refl refl (rw full tt))
 
-pub command_stands : (w : World) (x : Call) → AtCommand w.state.plan w.state.facts → IsNext w.state.plan w.state.facts 1 x → is_served x ≡ true
+-- the server counts the processes that were made
+pub made_so : (w : World) → Keeps w → w.state.facts.server.made ≡ length w.state.facts.plain.running
+made_so w keeps = subst (λ (f : Facts). f.server.made ≡ length f.plain.running) keeps.kept.facts (made_is w.state.plan w.journal.entries keeps.kept.legal)
+
+pub command_stands : (w : World) (x : Call) → Keeps w → AtCommand w.state.plan w.state.facts → IsNext w.state.plan w.state.facts 1 x → is_served x ≡ true
     → is_enabled w.state.facts x ≡ true → StandsAlone w (command_entry w.state x)
-command_stands w (command.Start m n args) at next known enabled = start_stands w m n args _ refl at next
-command_stands w (command.Ii m) at next known enabled = served_stands w _ _ (served_may w.state.plan w.state.facts _ _ at next known enabled refl tt)
-command_stands w (command.Ib m l) at next known enabled = served_stands w _ _ (served_may w.state.plan w.state.facts _ _ at next known enabled refl tt)
-command_stands w (command.Ia p) at next known enabled = served_stands w _ _ (served_may w.state.plan w.state.facts _ _ at next known enabled refl tt)
-command_stands w (command.Continue p) at next known enabled = served_stands w _ _ (served_may w.state.plan w.state.facts _ _ at next known enabled refl tt)
-command_stands w (command.Bindings p) at next known enabled = served_stands w _ _ (served_may w.state.plan w.state.facts _ _ at next known enabled refl tt)
-command_stands w (command.Await p s) at next known enabled = served_stands w _ _ (served_may w.state.plan w.state.facts _ _ at next known enabled refl tt)
-command_stands w _ at next known enabled = absurd (both_ways false refl known)
+command_stands w (command.Start m n args) keeps at next known enabled = start_stands w m n args _ (made_so w keeps) refl at next
+command_stands w (command.Ii m) keeps at next known enabled = served_stands w _ _ (served_may w.state.plan w.state.facts _ _ at next known enabled refl tt)
+command_stands w (command.Ib m l) keeps at next known enabled = served_stands w _ _ (served_may w.state.plan w.state.facts _ _ at next known enabled refl tt)
+command_stands w (command.Ia p) keeps at next known enabled = served_stands w _ _ (served_may w.state.plan w.state.facts _ _ at next known enabled refl tt)
+command_stands w (command.Continue p) keeps at next known enabled = served_stands w _ _ (served_may w.state.plan w.state.facts _ _ at next known enabled refl tt)
+command_stands w (command.Bindings p) keeps at next known enabled = served_stands w _ _ (served_may w.state.plan w.state.facts _ _ at next known enabled refl tt)
+command_stands w (command.Await p s) keeps at next known enabled = served_stands w _ _ (served_may w.state.plan w.state.facts _ _ at next known enabled refl tt)
+command_stands w _ keeps at next known enabled = absurd (both_ways false refl known)
 
 -- a command that waits isn't enabled
 disabled : (plan : Plan) (f : Facts) (x : Call) → AtTurn plan f → next_call plan f 1 ≡ Some x → is_enabled f x ≡ false
@@ -157,12 +165,17 @@ quiet_may plan f (command.Await p s) at next known off =
       plain = f.plain;
       enabled = refl;
     }
+quiet_may plan f (command.AwaitAny s) at next known off = absurd (both_ways false refl known)
 quiet_may plan f _ at next known off = absurd (both_ways true off refl)
 
 pub quiet_stands : (w : World) (x : Call) → AtQuiet w.state.plan w.state.facts → next_call w.state.plan w.state.facts 1 ≡ Some x → is_served x ≡ true
     → StandsAlone w (entry.Served 1 x reply.Quiet)
 quiet_stands w x at next known =
     served_stands w x reply.Quiet (quiet_may w.state.plan w.state.facts x at next known (disabled w.state.plan w.state.facts x at.at.at next))
+
+-- a trigger that is owed has the action `enable`
+pub owes_enable : (w : World) → Keeps w → AreOwed w.state.facts
+owes_enable w keeps = subst AreOwed keeps.kept.facts (owed_is w.state.plan w.journal.entries keeps.kept.legal)
 
 -- a process that owes a trigger was made
 pub owing_made : (w : World) (p : ℕ) → Keeps w → IsLeastOwing w.state.facts p → p ≤ length w.state.facts.plain.running

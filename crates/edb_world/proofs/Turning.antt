@@ -27,7 +27,7 @@ begins w k light =
     record {
       light = light;
       whole = k.whole;
-      no_quit = subst (λ (f : Facts). f.is_over ≡ false) k.kept.facts (never_over w.state.plan w.journal.entries k.kept.legal);
+      no_quit = subst (λ (f : Facts). f.has_quit ≡ false) k.kept.facts (never_over w.state.plan w.journal.entries k.kept.legal);
     }
 
 -- no signal is in flight, and no deadline above the clock
@@ -99,4 +99,4 @@ agrees plan journal f k = subst (λ (g : Facts). length g.debuggees ≡ length g
 -- the weight is reached
 pub at_limit : (w : World) → Keeps w → w.state.plan.weight_limit ≤ w.state.facts.weight → IsLimit w.state.plan w.state.facts
 at_limit w k full =
-    record { full = full; whole = k.whole; no_quit = subst (λ (f : Facts). f.is_over ≡ false) k.kept.facts (never_over w.state.plan w.journal.entries k.kept.legal) }
+    record { full = full; whole = k.whole; no_quit = subst (λ (f : Facts). f.has_quit ≡ false) k.kept.facts (never_over w.state.plan w.journal.entries k.kept.legal) }

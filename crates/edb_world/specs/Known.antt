@@ -11,7 +11,7 @@ use Rattle.edb_event.specs.declared.entry.Entry.TheVariants as entry
 use Rattle.edb_breaks.specs.Table.{Table, has_row}
 use Rattle.edb_rules.specs.Plans.{Plan}
 use Rattle.edb_rules.specs.Facts.{OwedTrigger, Facts, at_first}
-use Rattle.edb_rules.specs.Replies.{reply_to}
+use Rattle.edb_rules.specs.Answers.{reply_of}
 use Rattle.edb_rules.specs.Notes.{note}
 
 pub record Known : Type 0 where
@@ -41,10 +41,10 @@ budget_of k = min k.plan.slice_moves (k.plan.weight_limit - (k.facts.weight + 1)
 -- the entry of an enabled command: a start that is accepted has its own, every other one is served
 abbrev pub command_entry : Known → Call → Entry
 command_entry k (command.Start m n args) =
-    if nat_lt (length k.facts.plain.running) most_processes
+    if nat_lt k.facts.server.made most_processes
     then entry.Start 1 (length k.facts.plain.running + 1) m n args
-    else entry.Served 1 (command.Start m n args) (reply_to k.plan k.facts 1 (command.Start m n args))
-command_entry k x = entry.Served 1 x (reply_to k.plan k.facts 1 x)
+    else entry.Served 1 (command.Start m n args) (reply_of k.facts.server 1 (command.Start m n args))
+command_entry k x = entry.Served 1 x (reply_of k.facts.server 1 x)
 
 -- the entry of a trigger that process p owes: it is applied where the table still has the row
 abbrev pub trigger_entry : Table → ℕ → OwedTrigger → Entry

@@ -8,7 +8,7 @@ use Rattle.edb_event.specs.Books.{commands_of}
 use Rattle.edb_event.specs.declared.call.Call.{Call}
 use Rattle.edb_event.specs.declared.call.Call.TheVariants as command
 use Rattle.edb_rules.specs.Facts.{Console, unseen, debuggee_at, console_at}
-use Rattle.edb_rules.specs.Replies.{server_by}
+use Rattle.edb_rules.specs.Called.{called}
 use Rattle.edb_rules.specs.Orders.{order_of, ordered_process, with_order}
 use Rattle.edb_world.specs.Known.{Known}
 
@@ -39,7 +39,7 @@ abbrev pub served_known : Known → Call → Known
 served_known k x =
     record k {
       facts = record k.facts {
-        server = server_by 1 x k.facts.server;
+        server = called k.facts.server 1 x;
         debuggees = with_numbered k.facts.debuggees (ordered_process x) (with_order (order_of k.facts.plain x) (debuggee_at k.facts (ordered_process x)));
         consoles = with_numbered k.facts.consoles 1 (awaited x (console_at k.facts 1));
       };

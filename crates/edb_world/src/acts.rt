@@ -83,9 +83,11 @@ impl<'a> State<'a> {
         let place = (pid - 1) as usize;
         let reason = self.running(pid).reason(self.alloc)?;
         let value = term_text(self.alloc, &reason)?;
+        let told = value.copy(self.alloc)?;
         self.processes[place].end();
         self.members[place].end(reason);
         self.debuggees[place].end();
+        self.server.end(pid, told);
         self.turn = pid;
         self.weight += 1;
         Ok(Entry::Did {

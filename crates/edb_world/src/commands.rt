@@ -1,16 +1,21 @@
 //! The console's commands: which is next, and what it does.
 
-ghost use Rattle.std.specs.Prelude.{◌≡◌, ◌<◌, ◌≤◌, ◌+◌, ◌^◌, true, length, None, IfOk, OnOk};
-ghost use Rattle.edb_breaks.specs.Table.{row_at};
+ghost use Rattle.std.specs.Prelude.{◌≡◌, ◌<◌, ◌+◌, ◌-◌, ◌^◌, true, length, None, Some, IfOk, OnOk};
 ghost use Rattle.edb_lang.specs.Terms.{elements};
 ghost use Rattle.edb_event.specs.Books.{commands_of};
+ghost use Rattle.edb_event.specs.declared.call.Call.{Call};
 ghost use Rattle.edb_event.specs.declared.call.Call.TheVariants as call;
 ghost use Rattle.edb_event.specs.declared.call.Word.TheVariants as word;
 ghost use Rattle.edb_event.specs.declared.entry.Entry.TheVariants as entry;
 ghost use Rattle.edb_event.specs.declared.reply.Reply.TheVariants as reply;
 ghost use Rattle.edb_rules.specs.Replies as rules;
-ghost use Rattle.edb_rules.specs.Facts.{console_at};
-ghost use Rattle.edb_rules.specs.Replies.{next_call, is_enabled, is_served, has_status, process_of, refused, reply_to};
+ghost use Rattle.edb_rules.specs.Facts.{console_at, unseen};
+ghost use Rattle.edb_rules.specs.Replies.{next_call, is_enabled, is_served, process_of};
+ghost use Rattle.edb_rules.specs.Refusals.{refused};
+ghost use Rattle.edb_rules.specs.Answers.{reply_of};
+ghost use Rattle.edb_rules.specs.Orders.{resumes, with_order};
+ghost use Rattle.edb_model.specs.Procs.{numbered, with_numbered};
+ghost use Rattle.edb_frames.specs.declared.mode.Mode.TheVariants as mode;
 ghost use Rattle.edb_rules.specs.Ranks.{AtCommand};
 ghost use Rattle.edb_world.specs.Known.{noted, command_entry};
 ghost use Rattle.edb_world.specs.Served.{IsCounted, counted, served_known, with_newborn};
@@ -20,13 +25,10 @@ use crate::debuggee::Debuggee;
 use crate::live::{Live, Member};
 use crate::state::State;
 use edb_eval::Process;
-use edb_event::{Call, Entry, ProcStatus, Reply, Word};
+use edb_event::{Call, Entry, Reply, Word};
 use edb_frames::Mode;
 use edb_lang::{Name, Node, Term};
 use std::alloc::{AllocError, Global};
-
-/// The most processes that are ever made.
-pub(crate) const MOST_PROCESSES: usize = 65_536;
 
 /// What the console's next command asks for.
 #[derive(Drop)]
@@ -74,6 +76,20 @@ fn elements_of(alloc: Global, list: &Term) -> Result<Vec<Term>, AllocError>
     Ok(items)
 }
 
+/// Lets a process go on, if it is stopped.
+fn resume(debuggees: &mut [Debuggee<'_>], pid: u32)
+    ensures { debuggees.new ≡ with_numbered debuggees.old pid (with_order (resumes mode.Run) (numbered unseen debuggees.old pid)) }
+{
+    if pid == 0 {
+        return;
+    }
+    let place = (pid - 1) as usize;
+    if place >= debuggees.len() {
+        return;
+    }
+    debuggees[place].resume(Mode::Run);
+}
+
 impl<'a> State<'a> {
     /// The process that a word names; 0 where it names none.
     fn process_of(&self, word: &Word) -> u32
@@ -114,33 +130,17 @@ impl<'a> State<'a> {
         }
     }
 
-    /// Whether a process was made and has this status.
-    fn has_status(&self, pid: u32, status: ProcStatus) -> bool
-        ensures { result ≡ has_status self.now.facts pid status }
-    {
-        self.is_made(pid) && self.status_at(pid) == status
-    }
-
-    /// Whether a command is enabled: an await where its process has the status, and every other one.
-    fn is_enabled(&self, call: &Call) -> bool
-        ensures { result ≡ is_enabled self.now.facts call.now }
-    {
-        match call {
-            Call::Await { pid, status } => self.has_status(*pid, *status),
-            _ => true,
-        }
-    }
-
     /// What the console's next command asks for.
     pub(crate) fn next_command(&self) -> Result<NextCommand, AllocError>
         requires at { AtCommand self.now.plan self.now.facts }
+        requires known { (x : Call) → next_call self.now.plan self.now.facts 1 ≡ Some x → is_served x ≡ true }
         ensures { IfOk result (λ found. IsNextCommand self.now.plan self.now.facts found) }
     {
         let _ = &self.commands;
         match self.next_call()? {
             None => Ok(NextCommand::Through),
             Some(call) => {
-                if self.is_enabled(&call) {
+                if self.server.enables(&call) {
                     return Ok(NextCommand::Enabled(call));
                 }
                 Ok(NextCommand::Waits(call))
@@ -151,25 +151,42 @@ impl<'a> State<'a> {
     /// Serves a command as one that is enabled, or starts its process.
     pub(crate) fn answer(&mut self, call: Call) -> Result<Entry, AllocError>
         requires known { is_served call ≡ true }
+        requires enabled { is_enabled self.old.facts call ≡ true }
         requires left { (console_at self.old.facts 1).served < length (commands_of 1 self.old.plan.commands) }
+        requires tied { self.old.facts.server.made ≡ length self.old.facts.plain.running }
         requires fits { self.old.facts.weight + 1 < 2 ^ 32 }
         ensures entry { IfOk result (λ e. e ≡ command_entry self.old call) }
         ensures state { IfOk result (λ e. self.new ≡ noted self.old e) }
     {
-        if self.processes.len() < MOST_PROCESSES {
-            match call {
-                Call::Start { module, name, args } => self.start(module, name, args),
-                other => self.serve(other),
-            }
-        } else {
-            self.serve(call)
+        let refused = self.server.refused(1, &call).is_some();
+        if refused {
+            return self.serve(call);
+        }
+        self.accept(call)
+    }
+
+    /// Serves a command as one that is enabled and isn't refused, or starts its process.
+    fn accept(&mut self, call: Call) -> Result<Entry, AllocError>
+        requires known { is_served call ≡ true }
+        requires enabled { is_enabled self.old.facts call ≡ true }
+        requires allowed { refused self.old.facts.server 1 call ≡ None }
+        requires left { (console_at self.old.facts 1).served < length (commands_of 1 self.old.plan.commands) }
+        requires tied { self.old.facts.server.made ≡ length self.old.facts.plain.running }
+        requires fits { self.old.facts.weight + 1 < 2 ^ 32 }
+        ensures entry { IfOk result (λ e. e ≡ command_entry self.old call) }
+        ensures state { IfOk result (λ e. self.new ≡ noted self.old e) }
+    {
+        match call {
+            Call::Start { module, name, args } => self.start(module, name, args),
+            other => self.serve(other),
         }
     }
 
     /// Starts a process.
     fn start(&mut self, module: Name, name: Name, args: Term) -> Result<Entry, AllocError>
         requires left { (console_at self.old.facts 1).served < length (commands_of 1 self.old.plan.commands) }
-        requires few { length self.old.facts.plain.running < 65536 }
+        requires few { self.old.facts.server.made < 65536 }
+        requires tied { self.old.facts.server.made ≡ length self.old.facts.plain.running }
         requires fits { self.old.facts.weight + 1 < 2 ^ 32 }
         ensures entry { IfOk result (λ e.
             e ≡ entry.Start 1 (length self.old.facts.plain.running + 1) «module» name args) }
@@ -179,6 +196,7 @@ impl<'a> State<'a> {
         let home = module.copy(self.alloc)?;
         let function = name.copy(self.alloc)?;
         let operands = elements_of(self.alloc, &args)?;
+        self.server.start(pid)?;
         self.add(Process::open(home, function, operands))?;
         self.own.push(pid)?;
         self.count();
@@ -217,13 +235,14 @@ impl<'a> State<'a> {
     /// Serves an enabled command, which isn't a start that is accepted.
     fn serve(&mut self, call: Call) -> Result<Entry, AllocError>
         requires known { is_served call ≡ true }
+        requires enabled { is_enabled self.old.facts call ≡ true }
         requires left { (console_at self.old.facts 1).served < length (commands_of 1 self.old.plan.commands) }
         requires fits { self.old.facts.weight + 1 < 2 ^ 32 }
-        ensures entry { IfOk result (λ e. e ≡ entry.Served 1 call (reply_to self.old.plan self.old.facts 1 call)) }
+        ensures entry { IfOk result (λ e. e ≡ entry.Served 1 call (reply_of self.old.facts.server 1 call)) }
         ensures state { IfOk result (λ e. self.new ≡ noted self.old e) }
     {
-        let reply = self.reply(&call)?;
-        let refused = self.refused(&call).is_some();
+        let reply = self.server.reply(1, &call)?;
+        let refused = self.server.refused(1, &call).is_some();
         self.count();
         if refused {
             return Ok(Entry::Served {
@@ -243,59 +262,17 @@ impl<'a> State<'a> {
     /// Does what a command that isn't refused does, once it is counted.
     fn change(&mut self, call: &Call) -> Result<(), AllocError>
         requires known { is_served call.now ≡ true }
-        requires allowed { refused self.old.plan self.old.facts 1 call.now ≡ None }
+        requires allowed { refused self.old.facts.server 1 call.now ≡ None }
         requires counted { IsCounted self.old }
         ensures { OnOk result (self.new ≡ served_known self.old call.now) }
     {
+        self.server.call(1, call)?;
         match call {
-            Call::Ii { module } => self.interpret(module),
-            Call::Ib { module, line } => self.break_at(module, *line),
-            Call::Ia { pid } => self.attach(*pid),
-            Call::Continue { pid } => {
-                self.resume(*pid);
-                Ok(())
-            }
-            Call::Await { pid, .. } => {
-                self.last = *pid;
-                Ok(())
-            }
-            _ => Ok(()),
+            Call::Continue { pid } => resume(&mut self.debuggees, *pid),
+            Call::Await { pid, .. } => self.last = *pid,
+            _ => {}
         }
-    }
-
-    /// Interprets a module.
-    fn interpret(&mut self, module: &Name) -> Result<(), AllocError>
-        ensures { OnOk result (self.new ≡ served_known self.old (call.Ii «module».now)) }
-    {
-        self.server.interpret(self.alloc, module)?;
         Ok(())
-    }
-
-    /// Makes a breakpoint where there is none.
-    fn break_at(&mut self, module: &Name, line: u32) -> Result<(), AllocError>
-        requires free { row_at «module».now line self.old.facts.server.table ≡ None }
-        requires counted { IsCounted self.old }
-        ensures { OnOk result (self.new ≡ served_known self.old (call.Ib «module».now line)) }
-    {
-        let home = module.copy(self.alloc)?;
-        self.server.break_at(home, line)?;
-        Ok(())
-    }
-
-    /// Attaches the console to a process.
-    fn attach(&mut self, pid: u32) -> Result<(), AllocError>
-        ensures { OnOk result (self.new ≡ served_known self.old (call.Ia pid)) }
-    {
-        self.server.attach(1, pid)?;
-        Ok(())
-    }
-
-    /// Lets a process go on, where it is stopped.
-    fn resume(&mut self, pid: u32)
-        requires made { (1 ≤ pid) × (pid ≤ length self.old.facts.plain.running) }
-        ensures { self.new ≡ served_known self.old (call.Continue pid) }
-    {
-        self.debuggees[(pid - 1) as usize].resume(Mode::Run);
     }
 
     /// Answers a command that nothing enables any more.

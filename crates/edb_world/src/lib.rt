@@ -6,8 +6,6 @@ mod acts;
 mod commands;
 mod debuggee;
 mod live;
-mod replies;
-mod server;
 mod slices;
 mod state;
 mod turns;

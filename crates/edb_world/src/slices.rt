@@ -16,17 +16,19 @@ ghost use Rattle.edb_rules.specs.Slices as rules;
 ghost use Rattle.edb_rules.specs.Slices.{if_spent, at_begin, end_before, after_moves, level_in};
 ghost use Rattle.edb_rules.specs.SliceEnds as ends;
 ghost use Rattle.edb_rules.specs.SliceEnds.{cause_of};
+ghost use Rattle.edb_rules.specs.News.{frames_in};
 ghost use Rattle.edb_rules.specs.Notes.{handout_now, owed_by};
+ghost use Rattle.edb_lang.specs.declared.small.Action.TheVariants as action;
 ghost use Rattle.edb_world.specs.Known.{noted, budget_of, running_at, trigger_entry};
 ghost use Rattle.edb_world.specs.Turns.{holding, told_end, MakesSlice, IsSliceOf, IsEndNoted, IsLeastOwing, stopped_by};
 
 use crate::debuggee::{Handout, OwedTrigger};
 use crate::live::Live;
-use crate::server::{copy_names, is_among};
 use crate::state::State;
 use edb_eval::{Kind, Process};
 use edb_event::{Cause, Entry};
 use edb_frames::due as is_due;
+use edb_iserver::{Frame, SeenCall, SeenStop, is_among};
 use edb_lang::{Action, Break, Name, Status};
 use edb_model::Code;
 use std::alloc::{AllocError, Global};
@@ -163,47 +165,86 @@ fn make_slice<'a>(
     }
 }
 
-/// The entry of a process that comes to interpreted code.
-fn enter_entry(alloc: Global, pid: u32, process: &Process<'_>) -> Result<Entry, AllocError>
+/// The function of the innermost Body of a process that comes to interpreted code.
+fn entered_call(alloc: Global, process: &Process<'_>) -> Result<SeenCall, AllocError>
     requires { (i : Info) → innermost process.now ≡ Some i → i.arity < 2 ^ 32 }
-    ensures { IfOk result (λ e. e ≡ ends.enter_entry pid process.now) }
+    ensures { IfOk result (λ f. f ≡ record { home = (ends.body_in process.now).home; name = (ends.body_in process.now).name; arity = (ends.body_in process.now).arity }) }
 {
     let Some(body) = process.innermost() else {
-        let module = Name::from_str(alloc, "")?;
-        let name = Name::from_str(alloc, "")?;
-        return Ok(Entry::Enter {
-            pid,
-            module,
-            name,
+        return Ok(SeenCall {
+            module: Name::from_str(alloc, "")?,
+            name: Name::from_str(alloc, "")?,
             arity: 0,
         });
     };
-    let module = body.module.copy(alloc)?;
-    let name = body.name.copy(alloc)?;
-    Ok(Entry::Enter {
-        pid,
-        module,
-        name,
+    Ok(SeenCall {
+        module: body.module.copy(alloc)?,
+        name: body.name.copy(alloc)?,
         arity: body.arity as u32,
     })
 }
 
-/// The entry of a process that stops for a cause.
-fn stop_entry(
-    alloc: Global,
-    pid: u32,
-    process: &Process<'_>,
-    by: Cause,
-) -> Result<Entry, AllocError>
-    ensures { IfOk result (λ e. e ≡ stopped_by pid by process.now) }
+/// The entry of a process that comes to interpreted code, in this function.
+fn enter_entry(alloc: Global, pid: u32, function: &SeenCall) -> Result<Entry, AllocError>
+    ensures { IfOk result (λ e. e ≡ entry.Enter pid function.now.home function.now.name function.now.arity) }
+{
+    Ok(Entry::Enter {
+        pid,
+        module: function.module.copy(alloc)?,
+        name: function.name.copy(alloc)?,
+        arity: function.arity,
+    })
+}
+
+/// The frame of the innermost Body of a process that stops at this line, where it has one.
+fn frames_of(alloc: Global, process: &Process<'_>, line: u32) -> Result<Vec<Frame>, AllocError>
+    ensures { IfOk result (λ frames. frames.items ≡ frames_in line (Some process.now)) }
+{
+    let mut frames = Vec::new(alloc);
+    let Some(body) = process.innermost() else {
+        return Ok(frames);
+    };
+    let frame = Frame {
+        level: body.level,
+        module: body.module.copy(alloc)?,
+        name: body.name.copy(alloc)?,
+        arity: body.arity,
+        line,
+        bindings: body.bindings.copy(alloc)?,
+    };
+    frames.push(frame)?;
+    Ok(frames)
+}
+
+/// The stop of a process, where it is.
+fn seen_stop(alloc: Global, process: &Process<'_>) -> Result<SeenStop, AllocError>
+    ensures { IfOk result (λ s. s ≡ record {
+      home = (ends.place_of (next process.now)).0;
+      line = (ends.place_of (next process.now)).1;
+      level = level_in process.now;
+      frames = frames_in (ends.place_of (next process.now)).1 (Some process.now);
+    }) }
 {
     let level = level_of(process);
     let (module, line) = place_of(alloc, process)?;
-    Ok(Entry::Stop {
-        pid,
+    let frames = frames_of(alloc, process, line)?;
+    Ok(SeenStop {
         module,
         line,
         level,
+        frames,
+    })
+}
+
+/// The entry of a process that stops for a cause.
+fn stop_entry(alloc: Global, pid: u32, stop: &SeenStop, by: Cause) -> Result<Entry, AllocError>
+    ensures { IfOk result (λ e. e ≡ entry.Stop pid stop.now.home stop.now.line stop.now.level by) }
+{
+    Ok(Entry::Stop {
+        pid,
+        module: stop.module.copy(alloc)?,
+        line: stop.line,
+        level: stop.level,
         by,
     })
 }
@@ -300,9 +341,9 @@ impl<'a> State<'a> {
         Ok(Handout {
             budget,
             code: Some(self.code),
-            table: self.server.table.copy()?,
-            modules: copy_names(self.alloc, &self.server.interpreted)?,
-            flags: Vec::new(self.alloc),
+            table: self.server.copy_table()?,
+            modules: self.server.copy_interpreted()?,
+            flags: self.server.copy_flags(),
             mode: debuggee.next_mode(),
             is_interpreted: debuggee.is_interpreted,
             was_entered: debuggee.was_entered,
@@ -353,6 +394,7 @@ impl<'a> State<'a> {
     {
         let place = (pid - 1) as usize;
         self.debuggees[place].leave();
+        self.server.leave(pid);
         self.weight += 1;
         Entry::Leave { pid }
     }
@@ -366,8 +408,10 @@ impl<'a> State<'a> {
         ensures state { IfOk result (λ e. IsEndNoted self.old self.new e) }
         ensures err { OnErr result (self.new ≡ self.old) }
     {
-        let entry = enter_entry(self.alloc, pid, self.running(pid))?;
+        let function = entered_call(self.alloc, self.running(pid))?;
+        let entry = enter_entry(self.alloc, pid, &function)?;
         self.debuggees[(pid - 1) as usize].enter();
+        self.server.enter(pid, function);
         self.weight += 1;
         Ok(entry)
     }
@@ -381,10 +425,12 @@ impl<'a> State<'a> {
         ensures err { OnErr result (self.new ≡ self.old) }
     {
         let place = (pid - 1) as usize;
-        let entry = stop_entry(self.alloc, pid, self.running(pid), by)?;
+        let stop = seen_stop(self.alloc, self.running(pid))?;
+        let entry = stop_entry(self.alloc, pid, &stop, by)?;
         let handout = &self.debuggees[place].handout;
         let owed = owed_trigger(self.alloc, self.running(pid), by, handout)?;
         self.debuggees[place].stop(owed);
+        self.server.stop(pid, stop);
         self.weight += 1;
         Ok(entry)
     }
@@ -393,6 +439,7 @@ impl<'a> State<'a> {
     pub(crate) fn trigger(&mut self, pid: u32) -> Result<Entry, AllocError>
         requires owes { IsLeastOwing self.old.facts pid }
         requires few { pid ≤ length self.old.facts.plain.running }
+        requires enable { (o : facts.OwedTrigger) → (debuggee_at self.old.facts pid).owed ≡ Some o → o.action ≡ action.Enable }
         requires fits { self.old.facts.weight + 1 < 2 ^ 32 }
         ensures entry { IfOk result (λ e. (o : facts.OwedTrigger) → (debuggee_at self.old.facts pid).owed ≡ Some o →
             e ≡ trigger_entry self.old.facts.server.table pid o) }
@@ -406,8 +453,8 @@ impl<'a> State<'a> {
         let module = owed.home.copy(self.alloc)?;
         let (line, serial, action) = (owed.line, owed.serial, owed.action);
         let applied = match action {
-            Action::Enable => self.server.table.enable_serial(&module, line, serial),
-            _ => self.server.table.has(&module, line, serial),
+            Action::Enable => self.server.enable(&module, line, serial),
+            _ => unreachable!(),
         };
         self.debuggees[place].settle();
         self.weight += 1;

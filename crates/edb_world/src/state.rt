@@ -1,6 +1,8 @@
 //! The state of a world: all that the rules of a journal look at.
 
-ghost use Rattle.std.specs.Prelude.{◌≡◌, ◌<◌, ◌≤◌, ◌-◌, ◌^◌, ◌∷◌, [], None, false, length, MatchBool, IfOk};
+ghost use Rattle.std.specs.Option.{option_copied};
+ghost use Rattle.std.specs.Prelude.{◌≡◌, ◌<◌, ◌≤◌, ◌-◌, ◌^◌, ◌∷◌, [], None, false, is_some, unwrap_or, length, MatchBool, IfOk};
+ghost use Rattle.edb_rules.specs.Facts.{debuggee_at, unseen};
 ghost use Rattle.edb_model.specs.Bonds.{no_bonds};
 ghost use Rattle.edb_model.specs.Procs.{process_rows};
 ghost use Rattle.edb_model.specs.Plain.{tables_of};
@@ -8,8 +10,8 @@ ghost use Rattle.edb_world.specs.Known.{known_first};
 
 use crate::debuggee::Debuggee;
 use crate::live::{Live, Member};
-use crate::server::Interpreter;
 use edb_event::Command;
+use edb_iserver::Server;
 use edb_lang::{Bytes, Rows, Term};
 use edb_model::{Code, ProcRow, Tables};
 use std::alloc::{AllocError, Global};
@@ -28,7 +30,7 @@ pub(crate) struct State<'a> {
     pub(crate) processes: Vec<Live<'a>>,
     pub(crate) members: Vec<Member>,
     pub(crate) output: Bytes,
-    pub(crate) server: Interpreter,
+    pub(crate) server: Server<'a>,
     pub(crate) debuggees: Vec<Debuggee<'a>>,
     pub(crate) served: usize,
     pub(crate) own: Vec<u32>,
@@ -67,7 +69,7 @@ impl<'a> Model for State<'a> {
         turn = s.turn;
         coming = [];
         weight = s.weight;
-        is_over = false;
+        has_quit = false;
       };
     } };
 
@@ -94,13 +96,33 @@ impl<'a> State<'a> {
             processes: Vec::new(alloc),
             members: Vec::new(alloc),
             output: Bytes::new(alloc),
-            server: Interpreter::new(alloc),
+            server: Server::new(alloc, code),
             debuggees: Vec::new(alloc),
             served: 0,
             own: Vec::new(alloc),
             last: 0,
             turn: 0,
             weight: 0,
+        }
+    }
+
+    /// What the debugger knows of a process, where one with this number was made.
+    fn debuggee(&self, pid: u32) -> Option<&Debuggee<'a>>
+        ensures { unwrap_or (option_copied result) unseen ≡ debuggee_at self.now.facts pid }
+    {
+        if pid == 0 {
+            return None;
+        }
+        self.debuggees.get((pid - 1) as usize)
+    }
+
+    /// Whether a process owes a trigger.
+    pub(crate) fn is_owing(&self, pid: u32) -> bool
+        ensures { result ≡ is_some (debuggee_at self.now.facts pid).owed }
+    {
+        match self.debuggee(pid) {
+            Some(debuggee) => debuggee.owed.is_some(),
+            None => false,
         }
     }
 

@@ -20,6 +20,6 @@ returns-clause-state c =
     let t = c.running.result.now in
     let member : numbered new_member f.plain.procs.members p ≡ m = member_at f.plain.procs.members p m within.0 (search rules) (search rules) in
     let known : debuggee_at f p ≡ d = known_at f p d within.0 (search rules) (search rules) in
-    end_noted k _ p t c.in_ok-value.value m d c.end-3.new.self c.end.new.self c.end-2.new.self within.0 c.running.ensures
+    end_noted k _ p t c.in_ok-value.value m d c.end-3.new.self c.end.new.self c.end-2.new.self c.end-4.new.self within.0 c.running.ensures
     (next_here f p kind.End acting t c.running.ensures) (search rules) (search rules) (search rules) member
-    (c.end-2.ensures ∙ ap (λ (r : Datum). ended_member r m) c.in_ok-reason.ensures) known c.end-3.ensures c.end.ensures (search rules)
+    (c.end-2.ensures ∙ ap (λ (r : Datum). ended_member r m) c.in_ok-reason.ensures) known c.end-3.ensures c.end.ensures (search rules) (search rules)

@@ -13,8 +13,8 @@ returns-in-None c =
     let through : next_call k.plan k.facts 1 ≡ None = sym c.in_ok-next_call.ensures ∙ c.in-None.is in
     (turn_through k.plan k.facts cs c.requires.at is none through, all_answered k.plan k.facts cs is through)
 
-pub returns-else-is_enabled : goal.returns-else-is_enabled
-returns-else-is_enabled c =
+pub returns-else-enables : goal.returns-else-enables
+returns-else-enables c =
     let k = c.args.self.now in
     let cs = c.self.inside.commands.now in
     let is : k.plan.commands ≡ cs ∷ [] = sym (ap (λ (x : Known). x.plan.commands) c.self.view_is) in

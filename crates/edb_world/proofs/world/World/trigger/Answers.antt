@@ -1,10 +1,13 @@
 use Rattle.std.proofs.Common.{arith}
 use Rattle.edb_world.proofs.Turning.{begins, weighed, stands_range, stands_one, stands_went}
-use Rattle.edb_world.proofs.Standing.{trigger_stands, owing_made}
+use Rattle.edb_world.proofs.Standing.{trigger_stands, owing_made, owes_enable}
 use Rattle.edb_world.proofs.world.World.trigger.Goals as goal
 
 pub trigger-requires-clause-few : goal.trigger-requires-clause-few
 trigger-requires-clause-few c = owing_made c.args.self.now c.args.pid c.requires.going.keeps c.requires.owes
+
+pub trigger-requires-clause-enable : goal.trigger-requires-clause-enable
+trigger-requires-clause-enable c = owes_enable c.args.self.now c.requires.going.keeps c.args.pid
 
 pub push-requires-clause-range : goal.push-requires-clause-range
 push-requires-clause-range c =

@@ -5,7 +5,7 @@ use Rattle.std.specs.Prelude.{codes}
 use Rattle.edb_lang.specs.declared.term.Captured.{Captured}
 use Rattle.edb_lang.specs.TermText.{term_text}
 use Rattle.edb_lang.specs.TermViews.{pairs_of}
-use Rattle.edb_rules.specs.Replies.{binding_rows}
+use Rattle.edb_rules.specs.ServerRows.{binding_rows}
 
 abbrev pub row_of : Captured → List ℕ
 row_of c = (c.name ++ codes " = ") ++ term_text c.value

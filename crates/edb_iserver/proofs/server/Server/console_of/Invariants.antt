@@ -1,6 +1,6 @@
 use Rattle.std.proofs.Common.{◌≡◌, drop}
-use Rattle.edb_rules.specs.Replies.{console_of}
-use Rattle.edb_world.proofs.server.Interpreter.console_of.Given as goal
+use Rattle.edb_rules.specs.Server.{console_of}
+use Rattle.edb_iserver.proofs.server.Server.console_of.Given as goal
 
 -- none of the pairs so far was of the process
 abbrev pub invariant-loop-process : goal.invariant-loop-process

@@ -1,8 +1,8 @@
 use Rattle.std.proofs.Common.{◌∙◌, sym, ap, map, arith}
 use Rattle.std.proofs.lemmas.List.{take_all}
-use Rattle.edb_rules.specs.Replies.{binding_rows}
-use Rattle.edb_world.proofs.BindingRows.{row_of, rows_of}
-use Rattle.edb_world.proofs.replies.binding_rows.Goals as goal
+use Rattle.edb_rules.specs.ServerRows.{binding_rows}
+use Rattle.edb_iserver.proofs.BindingRows.{row_of, rows_of}
+use Rattle.edb_iserver.proofs.replies.binding_rows.Goals as goal
 
 pub returns : goal.returns
 returns c =

@@ -1,6 +1,6 @@
 use Rattle.std.proofs.Common.{◌≡◌, take, map}
-use Rattle.edb_world.proofs.BindingRows.{row_of}
-use Rattle.edb_world.proofs.replies.binding_rows.Given as goal
+use Rattle.edb_iserver.proofs.BindingRows.{row_of}
+use Rattle.edb_iserver.proofs.replies.binding_rows.Given as goal
 
 -- a row for each pair so far
 abbrev pub invariant-loop-pair : goal.invariant-loop-pair
