@@ -1,8 +1,11 @@
-pub mod Lines
-pub mod Found
-pub mod Refusals
-pub mod Exclusions
+pub mod Leaving
 pub mod Rows
 pub mod Served
+pub mod Found
+pub mod Pieces
+pub mod ModuleLists
+pub mod FileLists
+pub mod Answered
 pub mod Planned
-pub mod Leaving
+pub mod Refusals
+pub mod Exclusions

@@ -1,6 +1,7 @@
 pub mod Headline
 pub mod Runs
 pub mod Reading
+pub mod Texts
 pub mod Ends
-pub mod Named
 pub mod Exact
+pub mod Views

@@ -1,56 +1,69 @@
--- What the words name, and what a session reads.
+-- What a session reads: a script, and then FILEs that are modules.
 
-use Rattle.std.specs.Prelude.{◌≡◌, ℕ, if◌then◌else◌, ◌||◌, List, [], ◌∷◌, Option, None, Some}
+use Rattle.std.specs.Prelude.{◌≡◌, ℕ, zero, suc, List, [], ◌∷◌, map, Option, None, Some}
 use Rattle.edb_lang.specs.Syntax.{ModuleTree}
 use Rattle.edb_io.specs.OneRead.{Read}
-use Rattle.edb_files.specs.Names.{is_option}
 use Rattle.edb_files.specs.InOrder.{Asked, AreRead, ReadsUp, text_file}
 use Rattle.edb_small.specs.SmallModule.{IsModule}
 use Rattle.edb_cmds.specs.Listing.{IsScriptOf, IsScriptFault}
 use Rattle.edb_event.specs.Books.{commands_of}
+use Rattle.edb_options.specs.Options.{Wanted}
 use Rattle.edb_rules.specs.Plans.{Plan}
 use Rattle.edb_session.specs.Runs.{plan_with}
 
--- the script's name and the FILE's
-abbrev pub Names : Type 0
-Names = List ℕ × List ℕ
+-- the files that are read: the script first, and then the FILEs
+abbrev pub files_of : Wanted → List Asked
+files_of w = map text_file w.names
 
--- the words are exactly two names
-abbrev pub names_in : List (List ℕ) → Option Names
-names_in (s ∷ (f ∷ [])) = if is_option s || is_option f then None else Some (s, f)
-names_in _ = None
+-- the text is no module
+abbrev pub IsNoModule : List ℕ → Type 0
+IsNoModule text = (m : ModuleTree) → IsModule text m → ⊥
 
--- the files that are read: the script first, and then the FILE
-abbrev pub both : Names → List Asked
-both n = text_file n.0 ∷ (text_file n.1 ∷ [])
+-- each text is a module, in order
+abbrev pub AreModules : List (List ℕ) → List ModuleTree → Type 0
+AreModules [] [] = Unit {0}
+AreModules (text ∷ texts) (m ∷ ms) = IsModule text m × AreModules texts ms
+AreModules [] (m ∷ ms) = ⊥
+AreModules (text ∷ texts) [] = ⊥
 
--- what was read is no module
-pub record RefusesModule (n : Names) (old new : List Read) : Type 0 where
+-- text k, counted from 0, is no module, and each before it is one
+abbrev pub IsFirstRefused : List (List ℕ) → ℕ → Type 0
+IsFirstRefused [] k = ⊥
+IsFirstRefused (text ∷ texts) zero = IsNoModule text
+IsFirstRefused (text ∷ texts) (suc k) = ((m : ModuleTree) × IsModule text m) × IsFirstRefused texts k
+
+-- file k, counted from the script, which is 0, is the first FILE that is no module
+abbrev pub IsModuleRefused : List (List ℕ) → ℕ → Type 0
+IsModuleRefused texts zero = ⊥
+IsModuleRefused texts (suc k) = IsFirstRefused texts k
+
+-- all was read, and file k is the first FILE that is no module
+pub record RefusesModule (w : Wanted) (old new : List Read) (k : ℕ) : Type 0 where
   pub script : List ℕ
-  pub file : List ℕ
-  pub read : AreRead (both n) old new (script ∷ (file ∷ []))
-  pub no_module : (m : ModuleTree) → IsModule file m → ⊥
+  pub texts : List (List ℕ)
+  pub read : AreRead (files_of w) old new (script ∷ texts)
+  pub refused : IsModuleRefused texts k
 
--- the FILE is a module, and the script is bad at this line
-pub record RefusesScript (n : Names) (old new : List Read) (line : ℕ) : Type 0 where
+-- all was read, the FILEs are modules, and the script is bad at this line
+pub record RefusesScript (w : Wanted) (old new : List Read) (line : ℕ) : Type 0 where
   pub script : List ℕ
-  pub file : List ℕ
-  pub read : AreRead (both n) old new (script ∷ (file ∷ []))
-  pub tree : ModuleTree
-  pub is_module : IsModule file tree
+  pub texts : List (List ℕ)
+  pub read : AreRead (files_of w) old new (script ∷ texts)
+  pub trees : List ModuleTree
+  pub are_modules : AreModules texts trees
   pub refused : IsScriptFault script line
 
--- what was read is a module and a script, and this is the plan of both
-pub record IsAccepted (n : Names) (old new : List Read) (plan : Plan) : Type 0 where
+-- all was read, the FILEs are modules and the script is one, and this is the plan of both under the options
+pub record IsAccepted (w : Wanted) (old new : List Read) (plan : Plan) : Type 0 where
   pub script : List ℕ
-  pub file : List ℕ
-  pub read : AreRead (both n) old new (script ∷ (file ∷ []))
-  pub tree : ModuleTree
-  pub is_module : IsModule file tree
+  pub texts : List (List ℕ)
+  pub read : AreRead (files_of w) old new (script ∷ texts)
+  pub trees : List ModuleTree
+  pub are_modules : AreModules texts trees
   pub is_script : IsScriptOf script (commands_of 1 plan.commands)
-  pub is_plan : plan ≡ plan_with (tree ∷ []) (commands_of 1 plan.commands)
+  pub is_plan : plan ≡ plan_with w.options trees (commands_of 1 plan.commands)
 
--- both files were read in order, up to one whose read failed or up to any place; without names, none was
-abbrev pub ReadsSome : Option Names → List Read → List Read → Type 0
+-- the files were read in order, up to one whose read failed or up to any place; without names, none was
+abbrev pub ReadsSome : Option Wanted → List Read → List Read → Type 0
 ReadsSome None old new = new ≡ old
-ReadsSome (Some n) old new = ReadsUp (both n) old new
+ReadsSome (Some w) old new = ReadsUp (files_of w) old new

@@ -16,7 +16,7 @@ pub enum End {
     /// All commands were answered and no process could go on, below the greatest weight, and all was
     /// written.
     Done,
-    /// The words aren't a script's name and a FILE's.
+    /// The words aren't options, a script's name and the names of FILEs.
     Words,
     /// This file could not be read.
     FileFault { file: u32 },

@@ -2,8 +2,10 @@
 #![tactic(auto, using(edb_lang::proofs::Lists::lists))]
 
 mod ending;
+mod laws;
 mod render;
 mod top;
 
 pub use ending::{End, Ending, ModuleFault};
+pub use laws::written_journals_are_read;
 pub use top::session;

@@ -175,8 +175,96 @@ fn refuses_words_and_names(rt: HostRuntime) -> Result<(), Fail> {
     let alloc = rt.alloc();
     assert!(rt; refuses(alloc, &[], 2, "edb: words\n")?);
     assert!(rt; refuses(alloc, &["-x", "f.erl"], 2, "edb: words\n")?);
-    assert!(rt; refuses(alloc, &["s", "f.erl", "g.erl", "h.erl"], 2, "edb: words\n")?);
-    assert!(rt; refuses(alloc, &["s", "no.erl"], 3, "edb: cannot read no.erl\n")?);
+    assert!(rt; refuses(alloc, &["s"], 2, "edb: words\n")?);
+    assert!(rt;
+        refuses(
+            alloc,
+            &["s", "no.erl", "--slice", "4097"],
+            2,
+            "edb: words\n"
+        )?
+    );
+    assert!(rt; refuses(alloc, &["s", "no.erl", "--journal=1"], 2, "edb: words\n")?);
+    assert!(rt;
+        refuses(
+            alloc,
+            &["s", "--", "--journal"],
+            3,
+            "edb: cannot read --journal\n"
+        )?
+    );
+    assert!(rt;
+        refuses(
+            alloc,
+            &["s", "no.erl", "g.erl"],
+            3,
+            "edb: cannot read no.erl\n"
+        )?
+    );
+    Ok(())
+}
+
+/// Whether a session with these words and this script `s`, beside the FILEs `shop.erl`, `spin.erl` and `none.erl`, ends
+/// with this status and writes these bytes.
+fn answers(
+    alloc: Global,
+    names: &[&str],
+    script: &str,
+    status: u8,
+    text: &str,
+) -> Result<bool, AllocError> {
+    let mut files = MemFiles::new(alloc);
+    files.add("s", script.as_bytes())?;
+    files.add("shop.erl", SHOP.as_bytes())?;
+    files.add("spin.erl", SPIN.as_bytes())?;
+    files.add("none.erl", b"f() -> if true -> 1 end.")?;
+    let words = words(alloc, names)?;
+    let (ending, sink) = run_by(alloc, &words, &mut files, MemSink::new(alloc));
+    Ok(ending.status == status && sink.written() == text.as_bytes())
+}
+
+/// The journal's text of the shop's run, in slices of at most 16 moves.
+const JOURNAL: &str =
+    "edb 1\nstart 1 1 shop main []\nlease 1 16\nran 1 16 0\ndid 1 print 74727565 350a\nlease 1 16\nran 1 1 0\ndid 1 end 6e6f726d616c -\n";
+
+#[test]
+fn takes_options_and_files(rt: HostRuntime) -> Result<(), Fail> {
+    for (names, script, status, text) in [
+        (
+            ["s", "shop.erl", "spin.erl"].as_slice(),
+            "ii spin\nstart shop main []\n",
+            0,
+            "-- 1 ii spin: ok\n-- 1 start <1> shop:main/0\n5\n-- <1> exit normal\n",
+        ),
+        // The first FILE that is no module is named, before the script is looked at.
+        (
+            ["s", "shop.erl", "none.erl", "none.erl"].as_slice(),
+            "stop",
+            4,
+            "none.erl: not yet\n",
+        ),
+        (
+            ["s", "shop.erl", "spin.erl"].as_slice(),
+            "stop",
+            5,
+            "s: line 1\n",
+        ),
+        (
+            ["--slice=16", "s", "--journal", "shop.erl"].as_slice(),
+            "start shop main []",
+            0,
+            JOURNAL,
+        ),
+        // A journal is over at the weight that the words say.
+        (
+            ["--moves", "5", "--journal", "s", "spin.erl"].as_slice(),
+            "start spin go []",
+            6,
+            "edb 1\nstart 1 1 spin go []\nlease 1 3\nran 1 3 0\n",
+        ),
+    ] {
+        assert!(rt; answers(rt.alloc(), names, script, status, text)?);
+    }
     Ok(())
 }
 
