@@ -32,5 +32,10 @@ pub mod PlainSteps
 pub mod Agreeing
 pub mod ServerAgrees
 pub mod ServerCounts
+pub mod Settled
+pub mod Standings
+pub mod Awaits
+pub mod Refused
 mod RowsServer
+mod RowsTold
 pub mod Overs

@@ -67,14 +67,14 @@ trigger_made p m l serial a true t is = refl
 trigger_made p m l serial a false t is = unapplied a serial m l t (sym is)
 
 -- A command whose answer is `ok` is refused, answered `quiet`, or answered `ok`.
-abbrev IsShort : Reply → Type 0
+abbrev pub IsShort : Reply → Type 0
 IsShort r = (is_accepted r ≡ false) ⊎ (r ≡ reply.Ok)
 
 short_reply : (s : Server) (c : ℕ) (x : Call) (r : Reply) → answer s x ≡ reply.Ok → (o : Option Refusal) → refused s c x ≡ o → r ≡ reply_of s c x → IsShort r
 short_reply s c x r ok None is same = inr (let here : reply_of s c x ≡ answer s x = rw is refl in same ∙ (here ∙ ok))
 short_reply s c x r ok (Some why) is same = inl (let here : reply_of s c x ≡ reply.Refused why = rw is refl in ap is_accepted (same ∙ here))
 
-short : (plan : Plan) (f : Facts) (c : ℕ) (x : Call) (r : Reply) → answer f.server x ≡ reply.Ok → IsAnswer plan f c x r → IsShort r
+pub short : (plan : Plan) (f : Facts) (c : ℕ) (x : Call) (r : Reply) → answer f.server x ≡ reply.Ok → IsAnswer plan f c x r → IsShort r
 short plan f c x r ok (inl a) = short_reply f.server c x r ok (refused f.server c x) refl a.same
 short plan f c x r ok (inr q) = inl (ap is_accepted q.same)
 
@@ -83,7 +83,7 @@ pub kept_if : {A : Type 0} (h : Server → A) (b : Bool) (s t : Server) → h s 
 kept_if h true s t same = same
 kept_if h false s t same = refl
 
-not_short : {A : Type 0} (r : Reply) → is_accepted r ≡ true → (r ≡ reply.Ok → ⊥) → IsShort r → A
+pub not_short : {A : Type 0} (r : Reply) → is_accepted r ≡ true → (r ≡ reply.Ok → ⊥) → IsShort r → A
 not_short r accepted other (inl refuses) = absurd (both_ways (is_accepted r) refuses accepted)
 not_short r accepted other (inr is) = absurd (other is)
 
@@ -186,7 +186,7 @@ did_table plan f p k v bytes =
     (spawn_keeps (λ (s : Server). s.table) f.server f.plain (plain_with plan f.plain (entry.Did p k v bytes)) p v (λ n. refl))
 
 -- what each entry makes
-table_step : (plan : Plan) (f : Facts) (e : Entry) → Unit {0} → May plan f e → (note plan f e).server.table ≡ table_with f.server.table e
+pub table_step : (plan : Plan) (f : Facts) (e : Entry) → Unit {0} → May plan f e → (note plan f e).server.table ≡ table_with f.server.table e
 table_step plan f (entry.Trigger p m l s a applied) kept may = trigger_made p m l s a applied f.server.table may.rule.done
 table_step plan f (entry.Served c (command.Ib m l) r) kept may = ib_made f.server f.plain f.plain c m l r (short plan f c (command.Ib m l) r refl may.rule.answer)
 table_step plan f (entry.Served c x r) kept may = kept_if (λ (s : Server). s.table) (is_accepted r) _ f.server (table_kept f.server c x may.rule.known refl)
@@ -205,7 +205,7 @@ modules_step plan f (entry.Skip c p) kept may = absurd may.rule
 modules_step plan f (entry.Signal p r) kept may = absurd may.rule
 modules_step plan f _ kept may = refl
 
-attached_step : (plan : Plan) (f : Facts) (e : Entry) → f.server.flags ≡ [] → May plan f e → (note plan f e).server.attached ≡ attached_with f.server.attached e
+pub attached_step : (plan : Plan) (f : Facts) (e : Entry) → f.server.flags ≡ [] → May plan f e → (note plan f e).server.attached ≡ attached_with f.server.attached e
 attached_step plan f (entry.Served c (command.Ia p) r) none may = ia_made f.server f.plain f.plain c p r (short plan f c (command.Ia p) r refl may.rule.answer)
 attached_step plan f (entry.Served c x r) none may = kept_if (λ (s : Server). s.attached) (is_accepted r) _ f.server (attached_kept f.server c x may.rule.known refl)
 attached_step plan f (entry.Did p k v bytes) none may =

@@ -94,11 +94,15 @@ made_known f p holds made =
     let listed = holds.listed in
     (omega arith, omega arith)
 
-first_none : (b : Bool) (r : Refusal) (rest : List (Bool × Refusal)) → first_case ((b, r) ∷ rest) ≡ None → b ≡ false
+pub first_none : (b : Bool) (r : Refusal) (rest : List (Bool × Refusal)) → first_case ((b, r) ∷ rest) ≡ None → b ≡ false
 first_none true r rest e = absurd (none-some r (sym e))
 first_none false r rest e = refl
 
-not_false : (b : Bool) → not b ≡ false → b ≡ true
+pub rest_none : (b : Bool) (r : Refusal) (rest : List (Bool × Refusal)) → first_case ((b, r) ∷ rest) ≡ None → first_case rest ≡ None
+rest_none true r rest e = absurd (none-some r (sym e))
+rest_none false r rest e = e
+
+pub not_false : (b : Bool) → not b ≡ false → b ≡ true
 not_false true e = refl
 not_false false e = absurd (both_ways true e refl)
 

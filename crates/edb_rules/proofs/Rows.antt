@@ -209,10 +209,18 @@ first_owed : (plan : Plan) → AreOwed (at_first plan)
 first_owed plan zero = λ o is. absurd (none-some o is)
 first_owed plan (suc n) = λ o is. absurd (none-some o is)
 
-both_are : (plan : Plan) (journal : List Entry) → Legal plan journal → AreKnown (facts plan journal) × AreOwed (facts plan journal)
-both_are plan journal legal =
-    kept_from plan (λ (f : Facts). AreKnown f × AreOwed f) (λ f e all may. (known_step plan f e all.1 all.0 may, owed_step plan f e all.1 all.0)) (at_first plan) journal
-    ((All-nil _, λ q. subst (λ (rs : List BreakRow). IsKnown (at_first plan).server.table rs) (sym (first_known plan q)) (All-nil _)), first_owed plan) legal
+-- so they are, both, from entry to entry
+abbrev pub AreBoth : Facts → Type 0
+AreBoth f = AreKnown f × AreOwed f
+
+pub both_step : (plan : Plan) (f : Facts) (e : Entry) → AreBoth f → May plan f e → AreBoth (note plan f e)
+both_step plan f e all may = (known_step plan f e all.1 all.0 may, owed_step plan f e all.1 all.0)
+
+pub first_both : (plan : Plan) → AreBoth (at_first plan)
+first_both plan = ((All-nil _, λ q. subst (λ (rs : List BreakRow). IsKnown (at_first plan).server.table rs) (sym (first_known plan q)) (All-nil _)), first_owed plan)
+
+both_are : (plan : Plan) (journal : List Entry) → Legal plan journal → AreBoth (facts plan journal)
+both_are plan journal legal = kept_from plan AreBoth (both_step plan) (at_first plan) journal (first_both plan) legal
 
 pub known_at : (plan : Plan) (journal : List Entry) (k : ℕ) → Legal plan journal → AreKnown (facts plan (take k journal))
 known_at plan journal k legal = (both_are plan (take k journal) (legal_take plan journal k legal)).0

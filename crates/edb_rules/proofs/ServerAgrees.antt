@@ -46,7 +46,7 @@ use Rattle.edb_rules.proofs.Fresh.{Keeps, keeps_step, first_keeps, stop_free}
 use Rattle.edb_rules.proofs.PlainSteps.{MovesOne, other_running, moves_ones, did_act, start_makes, pushed}
 use Rattle.edb_rules.proofs.Agreeing.{Matches, matches_free, matches_same, matches_enter, matches_leave, matches_stop, matches_end, matches_resume}
 
-abbrev On : Facts → ℕ → Type 0
+abbrev pub On : Facts → ℕ → Type 0
 On f q = Matches (seen_at f.server q) (debuggee_at f q) (running_at f.plain q) (reason_of f q)
 
 pub record InStep (plan : Plan) (f : Facts) : Type 0 where
@@ -109,7 +109,7 @@ record Leaseable (f : Facts) (p : ℕ) : Type 0 where
   pub lives : running_at f.plain p ≡ Some running
   pub free : (debuggee_at f p).is_stopped ≡ false
 
-is_free : (d : Debuggee) → (d.is_stopped ≡ true → d.is_out ≡ false) → d.is_out ≡ true → (b : Bool) → d.is_stopped ≡ b → d.is_stopped ≡ false
+pub is_free : (d : Debuggee) → (d.is_stopped ≡ true → d.is_out ≡ false) → d.is_out ≡ true → (b : Bool) → d.is_stopped ≡ b → d.is_stopped ≡ false
 is_free d still out true is = absurd (both_ways d.is_out (still is) out)
 is_free d still out false is = is
 
@@ -209,7 +209,7 @@ did_on plan f p k v bytes s may (inr is) q =
     subst (λ (x : ActKind). May plan f (entry.Did p x v bytes) → On (note plan f (entry.Did p x v bytes)) q) (sym is) (λ m. end_on plan f p v bytes s m q) may
 
 -- an entry that may stand and has a process that was made
-here_of : (plan : Plan) (f : Facts) (e : Entry) → InStep plan f → May plan f e → (HasNone e → ⊥) → IsPresent (length f.debuggees) (process_in e)
+pub here_of : (plan : Plan) (f : Facts) (e : Entry) → InStep plan f → May plan f e → (HasNone e → ⊥) → IsPresent (length f.debuggees) (process_in e)
 here_of plan f e k may not = elim (present plan f e k.keeps.holds may) [
   | inl here ↦ here
   | inr none ↦ absurd (not none)
@@ -271,11 +271,11 @@ none_on plan f e k may none seen plain q =
 unserved : {A : Type 0} (x : Call) → is_served x ≡ true → is_served x ≡ false → A
 unserved x known other = absurd (both_ways (is_served x) other known)
 
-abbrev is_continue : Call → Bool
+abbrev pub is_continue : Call → Bool
 is_continue (command.Continue p) = true
 is_continue _ = false
 
-seen_kept : (s : Server) (c : ℕ) (x : Call) → is_served x ≡ true → is_continue x ≡ false → (called s c x).seen ≡ s.seen
+pub seen_kept : (s : Server) (c : ℕ) (x : Call) → is_served x ≡ true → is_continue x ≡ false → (called s c x).seen ≡ s.seen
 seen_kept s c (command.Continue p) known other = absurd (both_ways true other refl)
 seen_kept s c command.Ic known other = unserved command.Ic known refl
 seen_kept s c (command.Step p) known other = unserved (command.Step p) known refl
@@ -335,13 +335,13 @@ continued_on plan f c p r k may true is = continue_on plan f c p r k may is
 continued_on plan f c p r k may false is = refused_on plan f c p r k may is
 
 -- Start
-new_at : {A : Type 0} (d : A) (xs : List A) (x : A) (q n : ℕ) → length xs ≡ n → q ≡ n + 1 → numbered d (xs ++ x ∷ []) q ≡ x
+pub new_at : {A : Type 0} (d : A) (xs : List A) (x : A) (q n : ℕ) → length xs ≡ n → q ≡ n + 1 → numbered d (xs ++ x ∷ []) q ≡ x
 new_at d xs x q n same next = elim (pushed d xs x q n same) [
   | inl both ↦ both.1
   | inr both ↦ absurd (both.0 next)
 ]
 
-old_at : {A : Type 0} (d : A) (xs : List A) (x : A) (q n : ℕ) → length xs ≡ n → (q ≡ n + 1 → ⊥) → numbered d (xs ++ x ∷ []) q ≡ numbered d xs q
+pub old_at : {A : Type 0} (d : A) (xs : List A) (x : A) (q n : ℕ) → length xs ≡ n → (q ≡ n + 1 → ⊥) → numbered d (xs ++ x ∷ []) q ≡ numbered d xs q
 old_at d xs x q n same not = elim (pushed d xs x q n same) [
   | inl both ↦ absurd (not both.0)
   | inr both ↦ both.1
@@ -451,7 +451,7 @@ members_step plan f (entry.Signal p r) k may = absurd may.rule
 members_step plan f (entry.Advance t) k may = absurd (no_advance plan f t may)
 members_step plan f _ k may = k.members
 
-in_step : (plan : Plan) (f : Facts) (e : Entry) → InStep plan f → May plan f e → InStep plan (note plan f e)
+pub in_step : (plan : Plan) (f : Facts) (e : Entry) → InStep plan f → May plan f e → InStep plan (note plan f e)
 in_step plan f e k may = record {
   keeps = keeps_step plan f e k.keeps may;
   there = there_step plan f e k.there may;
@@ -471,7 +471,7 @@ first_on plan (suc n) = record {
   still = λ no. refl;
 }
 
-first_step : (plan : Plan) → InStep plan (at_first plan)
+pub first_step : (plan : Plan) → InStep plan (at_first plan)
 first_step plan = record { keeps = first_keeps plan; there = tt; members = refl; each = first_on plan }
 
 pub agrees_at : (plan : Plan) (journal : List Entry) (p : ℕ) → Legal plan journal → AgreesOn (facts plan journal) p

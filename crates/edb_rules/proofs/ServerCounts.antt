@@ -79,7 +79,7 @@ pub current_is : (plan : Plan) (journal : List Entry) → Legal plan journal →
 current_is plan journal legal = kept_from plan (λ f. f.server.current ≡ f.plain.versions) (current_step plan) (at_first plan) journal refl legal
 
 -- THE PROCESSES that were made: as many as have something to do, or had, and each is listed.
-record Counted (f : Facts) : Type 0 where
+pub record Counted (f : Facts) : Type 0 where
   pub listed : length f.server.seen ≡ length f.plain.running
   pub made : f.server.made ≡ length f.server.seen
   pub each : (q : ℕ) → 1 ≤ q → q ≤ length f.server.seen → is_made f.server q ≡ true
@@ -89,7 +89,7 @@ past [] n less = refl
 past (x ∷ xs) zero less = absurd (omega arith)
 past (x ∷ xs) (suc n) less = past xs n (omega arith)
 
-new_one : (s : Server) (p n : ℕ) → p ≡ n + 1 → length s.seen ≡ n → is_new s p ≡ true
+pub new_one : (s : Server) (p n : ℕ) → p ≡ n + 1 → length s.seen ≡ n → is_new s p ≡ true
 new_one s zero n next same = absurd (omega arith)
 new_one s (suc m) n next same = ap (λ (o : Option Seen). not (is_some o)) (past s.seen m (omega arith))
 
@@ -109,7 +109,7 @@ made_kept s p q change made = elim (with_or None s.seen p (option_map change (se
 ]
 
 -- what an entry but a start makes of the list
-abbrev SeenKept : Server → Server → Type 0
+abbrev pub SeenKept : Server → Server → Type 0
 SeenKept s t = (t.made ≡ s.made) × ((q : ℕ) → is_made s q ≡ true → is_made t q ≡ true)
 
 seen_same : (s t : Server) → t.made ≡ s.made → t.seen ≡ s.seen → SeenKept s t
@@ -124,11 +124,11 @@ called_kept s c (command.Continue p) known = (refl, λ q is. made_kept s p q _ i
 called_kept s c (command.Skip p) known = (refl, λ q is. made_kept s p q _ is)
 called_kept s c _ known = (refl, λ q is. is)
 
-abbrev StartsNone : Entry → Type 0
+abbrev pub StartsNone : Entry → Type 0
 StartsNone (entry.Start c p m n args) = ⊥
 StartsNone _ = Unit {0}
 
-entry_kept : (plan : Plan) (f : Facts) (e : Entry) → StartsNone e → May plan f e → SeenKept f.server (note plan f e).server
+pub entry_kept : (plan : Plan) (f : Facts) (e : Entry) → StartsNone e → May plan f e → SeenKept f.server (note plan f e).server
 entry_kept plan f (entry.Start c p m n args) none may = absurd none
 entry_kept plan f (entry.Served c x r) none may = by (is_accepted r)
   where
@@ -192,7 +192,7 @@ counted_start plan f c p m n args k may =
 no_more : (plan : Plan) (f : Facts) (e : Entry) → May plan f e → all_started (labels_of e) ≡ 0 → length (note plan f e).plain.running ≡ length f.plain.running
 no_more plan f e may none = let count = (note_stays plan f e may).count in omega arith
 
-counted_step : (plan : Plan) (f : Facts) (e : Entry) → Counted f → May plan f e → Counted (note plan f e)
+pub counted_step : (plan : Plan) (f : Facts) (e : Entry) → Counted f → May plan f e → Counted (note plan f e)
 counted_step plan f (entry.Start c p m n args) k may = counted_start plan f c p m n args k may
 counted_step plan f (entry.Load c m v) k may = absurd (no_load plan f c m v may)
 counted_step plan f (entry.Skip c p) k may = absurd may.rule
@@ -204,7 +204,7 @@ counted_step plan f (entry.Signal p r) k may = absurd may.rule
 counted_step plan f (entry.Advance t) k may = absurd (no_advance plan f t may)
 counted_step plan f _ k may = counted_kept plan f _ k tt may refl
 
-first_counted : (plan : Plan) → Counted (at_first plan)
+pub first_counted : (plan : Plan) → Counted (at_first plan)
 first_counted plan = record { listed = refl; made = refl; each = λ q least most. absurd (omega arith) }
 
 counted_at : (plan : Plan) (journal : List Entry) → Legal plan journal → Counted (facts plan journal)

@@ -28,6 +28,8 @@ pub mod Inside
 pub mod Halts
 pub mod Between
 pub mod Own
+pub mod Statuses
+pub mod Refused
 pub mod Made
 pub mod Stops
 pub mod Taken

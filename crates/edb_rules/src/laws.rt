@@ -1,8 +1,11 @@
 //! Laws of legal journals. Each is a function that does nothing and whose contract is the law.
 
-ghost use Rattle.std.specs.Prelude.{◌≡◌, ◌⊎◌, ◌<◌, ◌≤◌, ◌+◌, ℕ, ◌-◌, min, true, false, List, Option, None, Some, length, slice_get, take};
+ghost use Rattle.std.specs.Prelude.{◌≡◌, ◌⊎◌, ◌<◌, ◌≤◌, ◌+◌, ℕ, ◌-◌, min, true, false, List, Option, None, Some, is_some, length, slice_get, take};
+ghost use Rattle.std.specs.Option.{option_map};
 ghost use Rattle.edb_lang.specs.declared.small.Action.TheVariants as action;
 ghost use Rattle.edb_event.specs.declared.call.Call.{Call};
+ghost use Rattle.edb_event.specs.declared.call.Call.TheVariants as command;
+ghost use Rattle.edb_event.specs.declared.call.ProcStatus.{ProcStatus};
 ghost use Rattle.edb_event.specs.declared.entry.Cause.{Cause};
 ghost use Rattle.edb_event.specs.declared.entry.Cause.TheVariants as cause;
 ghost use Rattle.edb_event.specs.declared.entry.Entry.{Entry};
@@ -17,12 +20,14 @@ ghost use Rattle.edb_rules.specs.Facts.{debuggee_at, console_at};
 ghost use Rattle.edb_rules.specs.Agrees.{AgreesOn};
 ghost use Rattle.edb_rules.specs.Consoles.{command_of};
 ghost use Rattle.edb_rules.specs.Slices.{Why, due, has_body, level_in};
-ghost use Rattle.edb_rules.specs.Server.{is_among, is_made};
+ghost use Rattle.edb_rules.specs.Server.{is_among, is_made, seen_at, is_interpreted, stop_at};
+ghost use Rattle.edb_rules.specs.Seen.{status_of};
 ghost use Rattle.edb_rules.specs.SliceEnds.{cause_of, enter_entry};
 ghost use Rattle.edb_rules.specs.Turns.{Turn, turn_of, IsSooner};
 ghost use Rattle.edb_rules.specs.Ranks.{AtQuiet, IsWaiting};
 ghost use Rattle.edb_rules.specs.Nexts.{StandsNext, StandNext, last_turn};
-ghost use Rattle.edb_rules.specs.Replies.{next_call};
+ghost use Rattle.edb_rules.specs.Replies.{next_call, is_enabled, is_served};
+ghost use Rattle.edb_rules.specs.Refusals.{refused};
 ghost use Rattle.edb_rules.specs.Notes.{facts};
 ghost use Rattle.edb_rules.specs.Erasure.{erase};
 ghost use Rattle.edb_rules.specs.Legal.{Legal, IsOneHanded, IsAnswer, IsThrough, IsOver};
@@ -36,6 +41,8 @@ ghost use Rattle.edb_rules.specs.Tells.{TellsLevel, TellsCall};
 ghost use Rattle.edb_rules.specs.Inside.{is_inside_by};
 ghost use Rattle.edb_rules.specs.Halts.{is_stopped_by};
 ghost use Rattle.edb_rules.specs.Own.{starts_of, last_of};
+ghost use Rattle.edb_rules.specs.Statuses.{status_by, is_inside, is_halted};
+ghost use Rattle.edb_rules.specs.Refused.{refused_by, refusal_in};
 ghost use Rattle.edb_event.specs.Weights.{weight};
 ghost use Rattle.edb_event.specs.Books.{commands_of};
 ghost use Rattle.edb_event.specs.Ranges.{IsConsole};
@@ -233,6 +240,27 @@ pub fn a_process_is_stopped_between()
 pub fn own_starts_and_last_awaits()
     ensures own { (plan : Plan) (journal : List Entry) (c : ℕ) → Legal plan journal → (console_at (facts plan journal) c).own ≡ starts_of c journal }
     ensures last { (plan : Plan) (journal : List Entry) (c : ℕ) → Legal plan journal → (console_at (facts plan journal) c).last ≡ last_of c journal }
+{}
+
+/// The status that the server shows of a process after a legal journal is what the last entry says that speaks of the
+/// process, and by it the process is interpreted, or stopped. An await of a status is enabled exactly where the entries
+/// before it say that status: there it is answered by the process and the status, and elsewhere only by `quiet`.
+pub fn statuses_are_told_by_entries()
+    ensures status { (plan : Plan) (journal : List Entry) (p : ℕ) → Legal plan journal → option_map status_of (seen_at (facts plan journal).server p) ≡ status_by p journal }
+    ensures interpreted { (plan : Plan) (journal : List Entry) (p : ℕ) → Legal plan journal → is_interpreted (facts plan journal).server p ≡ is_inside (status_by p journal) }
+    ensures stopped { (plan : Plan) (journal : List Entry) (p : ℕ) → Legal plan journal → is_some (stop_at (facts plan journal).server p) ≡ is_halted (status_by p journal) }
+    ensures enabled { (plan : Plan) (journal : List Entry) (p : ℕ) (s : ProcStatus) → Legal plan journal → status_by p journal ≡ Some s → is_enabled (facts plan journal) (command.Await p s) ≡ true }
+    ensures waiting { (plan : Plan) (journal : List Entry) (p : ℕ) (s : ProcStatus) → Legal plan journal → (status_by p journal ≡ Some s → ⊥) → is_enabled (facts plan journal) (command.Await p s) ≡ false }
+    ensures met { (plan : Plan) (journal : List Entry) (k : ℕ) (c : ℕ) (p : ℕ) (s : ProcStatus) (r : Reply) → Legal plan journal → slice_get journal k ≡ Some (entry.Served c (command.Await p s) r) → status_by p (take k journal) ≡ Some s → r ≡ reply.Status p s }
+    ensures unmet { (plan : Plan) (journal : List Entry) (k : ℕ) (c : ℕ) (p : ℕ) (s : ProcStatus) (r : Reply) → Legal plan journal → slice_get journal k ≡ Some (entry.Served c (command.Await p s) r) → (status_by p (take k journal) ≡ Some s → ⊥) → r ≡ reply.Quiet }
+{}
+
+/// A command that is served is refused after a legal journal exactly where the modules and the entries before it refuse it,
+/// and by the first refusal that they tell. So each entry of a legal journal that answers a command is answered by that
+/// refusal, and by none where they tell none.
+pub fn refusals_are_told_by_entries()
+    ensures server { (plan : Plan) (journal : List Entry) (c : ℕ) (x : Call) → Legal plan journal → is_served x ≡ true → refused (facts plan journal).server c x ≡ refused_by plan.code journal c x }
+    ensures entries { (plan : Plan) (journal : List Entry) (k : ℕ) (e : Entry) (c : ℕ) (x : Call) → Legal plan journal → slice_get journal k ≡ Some e → command_of e ≡ Some (c, x) → refusal_in e ≡ refused_by plan.code (take k journal) c x }
 {}
 
 /// What a console does doesn't change what a process does: of two legal journals of the same modules, whatever their

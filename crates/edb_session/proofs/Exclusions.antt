@@ -19,12 +19,12 @@ use Rattle.edb_rules.specs.Notes.{facts}
 use Rattle.edb_rules.specs.Legal.{IsDone, IsLimit}
 use Rattle.edb_session.specs.declared.ending.End.{End}
 use Rattle.edb_session.specs.declared.ending.End.TheVariants.{Done, Words, FileFault, ModuleRefused, ScriptRefused, Limit, WriteFault, NoMemory}
-use Rattle.edb_session.specs.declared.ending.ModuleFault.TheVariants.{NotYet}
+use Rattle.edb_verdict.specs.declared.fault.ModuleFault.{ModuleFault}
 use Rattle.edb_session.specs.Runs.{plan_with}
 use Rattle.edb_session.specs.Reading.{files_of, AreModules, IsModuleRefused, RefusesModule, RefusesScript, IsAccepted}
 use Rattle.edb_session.specs.Ends.{HasCause, Leaves, IsWritten, KeepsFlag}
 use Rattle.edb_session.specs.Exact.{WordsExactly, ModuleExactly, ScriptExactly, DoneExactly, LimitExactly, IsComplete}
-use Rattle.edb_session.proofs.ModuleLists.{OneModule, modules_same, no_file_refused, one_file_refused}
+use Rattle.edb_session.proofs.ModuleLists.{OneModule, OneFault, NeverFault, modules_same, no_file_refused, one_file_refused}
 
 -- a script gives one list of commands, or is refused at one line, and never both
 abbrev OneListing : Type 0
@@ -58,10 +58,10 @@ read_whole : (w : Wanted) (old new : List Read) (s : List ℕ) (fs : List (List 
 read_whole w old new s fs k a fails = read_or_failed (files_of w) _ old new k a fails
 
 -- what was accepted is no refused module, and no refused script
-no_module_both : (w : Wanted) (old new : List Read) (s : List ℕ) (fs : List (List ℕ)) (trees : List ModuleTree) (k : ℕ) → AreRead (files_of w) old new (s ∷ fs) → AreModules fs trees
-    → RefusesModule w old new k → ⊥
-no_module_both w old new s fs trees k a are r =
-    no_file_refused r.texts trees k (subst (λ (ts : List (List ℕ)). AreModules ts trees) (texts_same w old new s r.script fs r.texts a r.read) are) r.refused
+no_module_both : (w : Wanted) (old new : List Read) (s : List ℕ) (fs : List (List ℕ)) (trees : List ModuleTree) (k : ℕ) (f : ModuleFault) → AreRead (files_of w) old new (s ∷ fs) → AreModules fs trees
+    → RefusesModule w old new k f → ⊥
+no_module_both w old new s fs trees k f a are r =
+    no_file_refused r.texts trees k f (subst (λ (ts : List (List ℕ)). AreModules ts trees) (texts_same w old new s r.script fs r.texts a r.read) are) r.refused
 
 no_script_both : NeverBoth → (w : Wanted) (old new : List Read) (s : List ℕ) (fs : List (List ℕ)) (c : List Command) (line : ℕ) → AreRead (files_of w) old new (s ∷ fs) → IsScriptOf s c
     → RefusesScript w old new line → ⊥
@@ -69,9 +69,10 @@ no_script_both never w old new s fs c line a is r =
     never r.script c line (subst (λ (bytes : List ℕ). IsScriptOf bytes c) (scripts_same w old new s r.script fs r.texts a r.read) is) r.refused
 
 -- one FILE is the first that is refused
-one_refused : (w : Wanted) (old new : List Read) (j k : ℕ) → RefusesModule w old new j → RefusesModule w old new k → j ≡ k
-one_refused w old new j k a b =
-    one_file_refused b.texts j k (subst (λ (ts : List (List ℕ)). IsModuleRefused ts j) (texts_same w old new a.script b.script a.texts b.texts a.read b.read) a.refused) b.refused
+one_refused : OneFault → NeverFault → (w : Wanted) (old new : List Read) (j k : ℕ) (f g : ModuleFault) → RefusesModule w old new j f → RefusesModule w old new k g
+    → (j ≡ k) × (f ≡ g)
+one_refused one never w old new j k f g a b =
+    one_file_refused one never b.texts j k f g (subst (λ (ts : List (List ℕ)). IsModuleRefused ts j f) (texts_same w old new a.script b.script a.texts b.texts a.read b.read) a.refused) b.refused
 
 -- what was accepted is one plan
 one_plan : OneModule → OneListing → (w : Wanted) (old new : List Read) (p q : Plan) → IsAccepted w old new p → IsAccepted w old new q → p ≡ q
@@ -98,31 +99,32 @@ module _ (wanted : Option Wanted) (old new : List Read) (before now sink_before 
   words_exact Done cause run none = absurd (no_words wanted (λ v. IsAccepted v old new run.plan) none run.accepted)
   words_exact Words cause run none = inl refl
   words_exact (FileFault k) cause run none = absurd (no_words wanted (λ v. FailsAt (files_of v) old new k) none cause.1)
-  words_exact (ModuleRefused j NotYet) cause run none = absurd (no_words wanted (λ v. RefusesModule v old new j) none cause)
+  words_exact (ModuleRefused j f) cause run none = absurd (no_words wanted (λ v. RefusesModule v old new j f) none cause)
   words_exact (ScriptRefused line) cause run none = absurd (no_words wanted (λ v. RefusesScript v old new line) none cause)
   words_exact Limit cause run none = absurd (no_words wanted (λ v. IsAccepted v old new run.plan) none run.accepted)
   words_exact WriteFault cause run none = absurd (no_words wanted (λ v. IsAccepted v old new run.plan) none run.accepted)
   words_exact NoMemory cause run none = inr refl
 
   -- nothing that was accepted is refused as a module
-  ran_no_module : (w : Wanted) (k : ℕ) (plan : Plan) → wanted ≡ Some w → IsSomeAnd wanted (λ v. IsAccepted v old new plan) → RefusesModule w old new k → ⊥
-  ran_no_module w k plan some accepted r =
+  ran_no_module : (w : Wanted) (k : ℕ) (g : ModuleFault) (plan : Plan) → wanted ≡ Some w → IsSomeAnd wanted (λ v. IsAccepted v old new plan) → RefusesModule w old new k g → ⊥
+  ran_no_module w k g plan some accepted r =
       let a = the_words wanted (λ v. IsAccepted v old new plan) w some accepted in
-      no_module_both w old new a.script a.texts a.trees k a.read a.are_modules r
+      no_module_both w old new a.script a.texts a.trees k g a.read a.are_modules r
 
-  pub module_exact : (e : End) → Caused e → Left e → ModuleExactly wanted old new e
-  module_exact Done cause run w k some r = absurd (ran_no_module w k run.plan some run.accepted r)
-  module_exact Words cause run w k some r = absurd (not_none wanted w some cause.0)
-  module_exact (FileFault i) cause run w k some r =
+  pub module_exact : OneFault → NeverFault → (e : End) → Caused e → Left e → ModuleExactly wanted old new e
+  module_exact one never Done cause run w k g some r = absurd (ran_no_module w k g run.plan some run.accepted r)
+  module_exact one never Words cause run w k g some r = absurd (not_none wanted w some cause.0)
+  module_exact one never (FileFault i) cause run w k g some r =
       absurd (read_whole w old new r.script r.texts i r.read (the_words wanted (λ v. FailsAt (files_of v) old new i) w some cause.1))
-  module_exact (ModuleRefused j NotYet) cause run w k some r =
-      inl (ap (λ (file : ℕ). ModuleRefused file NotYet) (one_refused w old new j k (the_words wanted (λ v. RefusesModule v old new j) w some cause) r))
-  module_exact (ScriptRefused line) cause run w k some r =
+  module_exact one never (ModuleRefused j f) cause run w k g some r =
+      let same = one_refused one never w old new j k f g (the_words wanted (λ v. RefusesModule v old new j f) w some cause) r in
+      inl (ap₂ (λ (file : ℕ) (fault : ModuleFault). ModuleRefused file fault) same.0 same.1)
+  module_exact one never (ScriptRefused line) cause run w k g some r =
       let s = the_words wanted (λ v. RefusesScript v old new line) w some cause in
-      absurd (no_module_both w old new s.script s.texts s.trees k s.read s.are_modules r)
-  module_exact Limit cause run w k some r = absurd (ran_no_module w k run.plan some run.accepted r)
-  module_exact WriteFault cause run w k some r = absurd (ran_no_module w k run.plan some run.accepted r)
-  module_exact NoMemory cause run w k some r = inr refl
+      absurd (no_module_both w old new s.script s.texts s.trees k g s.read s.are_modules r)
+  module_exact one never Limit cause run w k g some r = absurd (ran_no_module w k g run.plan some run.accepted r)
+  module_exact one never WriteFault cause run w k g some r = absurd (ran_no_module w k g run.plan some run.accepted r)
+  module_exact one never NoMemory cause run w k g some r = inr refl
 
   ran_no_script : NeverBoth → (w : Wanted) (plan : Plan) (line : ℕ) → wanted ≡ Some w → IsSomeAnd wanted (λ v. IsAccepted v old new plan)
       → RefusesScript w old new line → ⊥
@@ -135,8 +137,8 @@ module _ (wanted : Option Wanted) (old new : List Read) (before now sink_before 
   script_exact never one Words cause run w line some r = absurd (not_none wanted w some cause.0)
   script_exact never one (FileFault k) cause run w line some r =
       absurd (read_whole w old new r.script r.texts k r.read (the_words wanted (λ v. FailsAt (files_of v) old new k) w some cause.1))
-  script_exact never one (ModuleRefused j NotYet) cause run w line some r =
-      absurd (no_module_both w old new r.script r.texts r.trees j r.read r.are_modules (the_words wanted (λ v. RefusesModule v old new j) w some cause))
+  script_exact never one (ModuleRefused j f) cause run w line some r =
+      absurd (no_module_both w old new r.script r.texts r.trees j f r.read r.are_modules (the_words wanted (λ v. RefusesModule v old new j f) w some cause))
   script_exact never one (ScriptRefused bad) cause run w line some r =
       let s = the_words wanted (λ v. RefusesScript v old new bad) w some cause in
       inl (ap (λ (at : ℕ). ScriptRefused at)
@@ -156,8 +158,8 @@ module _ (wanted : Option Wanted) (old new : List Read) (before now sink_before 
   done_exact module_ listing never Words cause run flag w q some a clear still ended = absurd (not_none wanted w some cause.0)
   done_exact module_ listing never (FileFault k) cause run flag w q some a clear still ended =
       absurd (read_whole w old new a.script a.texts k a.read (the_words wanted (λ v. FailsAt (files_of v) old new k) w some cause.1))
-  done_exact module_ listing never (ModuleRefused j NotYet) cause run flag w q some a clear still ended =
-      absurd (no_module_both w old new a.script a.texts a.trees j a.read a.are_modules (the_words wanted (λ v. RefusesModule v old new j) w some cause))
+  done_exact module_ listing never (ModuleRefused j f) cause run flag w q some a clear still ended =
+      absurd (no_module_both w old new a.script a.texts a.trees j f a.read a.are_modules (the_words wanted (λ v. RefusesModule v old new j f) w some cause))
   done_exact module_ listing never (ScriptRefused line) cause run flag w q some a clear still ended =
       absurd (no_script_both never w old new a.script a.texts (commands_of 1 q.commands) line a.read a.is_script (the_words wanted (λ v. RefusesScript v old new line) w some cause))
   done_exact module_ listing never Limit cause run flag w q some a clear still ended =
@@ -173,8 +175,8 @@ module _ (wanted : Option Wanted) (old new : List Read) (before now sink_before 
   limit_exact module_ listing never Words cause run flag w q some a clear still ended = absurd (not_none wanted w some cause.0)
   limit_exact module_ listing never (FileFault k) cause run flag w q some a clear still ended =
       absurd (read_whole w old new a.script a.texts k a.read (the_words wanted (λ v. FailsAt (files_of v) old new k) w some cause.1))
-  limit_exact module_ listing never (ModuleRefused j NotYet) cause run flag w q some a clear still ended =
-      absurd (no_module_both w old new a.script a.texts a.trees j a.read a.are_modules (the_words wanted (λ v. RefusesModule v old new j) w some cause))
+  limit_exact module_ listing never (ModuleRefused j f) cause run flag w q some a clear still ended =
+      absurd (no_module_both w old new a.script a.texts a.trees j f a.read a.are_modules (the_words wanted (λ v. RefusesModule v old new j f) w some cause))
   limit_exact module_ listing never (ScriptRefused line) cause run flag w q some a clear still ended =
       absurd (no_script_both never w old new a.script a.texts (commands_of 1 q.commands) line a.read a.is_script (the_words wanted (λ v. RefusesScript v old new line) w some cause))
   limit_exact module_ listing never Limit cause run flag w q some a clear still ended = inl refl
@@ -186,10 +188,10 @@ module _ (wanted : Option Wanted) (old new : List Read) (before now sink_before 
   complete never Done cause run wrote w some files sink all = inl refl
   complete never Words cause run wrote w some files sink all = absurd (not_none wanted w some cause.0)
   complete never (FileFault k) cause run wrote w some files sink all = absurd (files cause.0)
-  complete never (ModuleRefused j NotYet) cause run wrote w some files sink all =
-      let r = the_words wanted (λ v. RefusesModule v old new j) w some cause in
+  complete never (ModuleRefused j f) cause run wrote w some files sink all =
+      let r = the_words wanted (λ v. RefusesModule v old new j f) w some cause in
       let found = all r.script r.texts r.read in
-      absurd (no_file_refused r.texts found.0.0 j found.0.1 r.refused)
+      absurd (no_file_refused r.texts found.0.0 j f found.0.1 r.refused)
   complete never (ScriptRefused line) cause run wrote w some files sink all =
       let r = the_words wanted (λ v. RefusesScript v old new line) w some cause in
       let found = all r.script r.texts r.read in

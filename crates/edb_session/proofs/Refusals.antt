@@ -9,7 +9,6 @@ use Rattle.edb_options.specs.Options.{Wanted}
 use Rattle.edb_event.specs.declared.entry.Entry.{Entry}
 use Rattle.edb_session.specs.declared.ending.End.{End}
 use Rattle.edb_session.specs.declared.ending.End.TheVariants.{Done, Words, FileFault, ModuleRefused, ScriptRefused, Limit, WriteFault, NoMemory}
-use Rattle.edb_session.specs.declared.ending.ModuleFault.TheVariants.{NotYet}
 use Rattle.edb_session.specs.Reading.{files_of}
 use Rattle.edb_session.specs.Ends.{HasCause, IsRefusal, IsRefusalWritten, IsWritten, RefusesAll, names_in, refusal_line}
 use Rattle.edb_session.specs.Texts.{rendering}
@@ -21,7 +20,7 @@ pub caused : (w : Wanted) (old new : List Read) (before now : ℕ) (script : Lis
 caused w old new before now script texts Done read r = tt
 caused w old new before now script texts Words read r = absurd r
 caused w old new before now script texts (FileFault k) read r = absurd r
-caused w old new before now script texts (ModuleRefused k NotYet) read r = record { script = script; texts = texts; read = read; refused = r }
+caused w old new before now script texts (ModuleRefused k fault) read r = record { script = script; texts = texts; read = read; refused = r }
 caused w old new before now script texts (ScriptRefused line) read r =
     record { script = script; texts = texts; read = read; trees = r.0.0; are_modules = r.0.1; refused = r.1 }
 caused w old new before now script texts Limit read r = tt

@@ -11,7 +11,7 @@ use Rattle.edb_model.specs.declared.tables.Tables.{Tables}
 use Rattle.edb_model.specs.Plain.{no_tables}
 use Rattle.edb_session.specs.declared.ending.End.{End}
 use Rattle.edb_session.specs.declared.ending.End.TheVariants.{Done, Words, FileFault, ModuleRefused, ScriptRefused, Limit, WriteFault, NoMemory}
-use Rattle.edb_session.specs.declared.ending.ModuleFault.TheVariants.{NotYet}
+use Rattle.edb_verdict.specs.FaultLines.{fault_line}
 use Rattle.edb_event.specs.declared.entry.Entry.{Entry}
 use Rattle.edb_files.specs.InOrder.{FailsAt}
 use Rattle.edb_files.specs.Lines.{IsKeptOrSet, IsLineWritten}
@@ -21,7 +21,7 @@ use Rattle.edb_rules.specs.Notes.{facts}
 use Rattle.edb_rules.specs.Legal.{IsDone, IsLimit, IsOver}
 use Rattle.edb_session.specs.Runs.{IsRun}
 use Rattle.edb_options.specs.Options.{Wanted}
-use Rattle.edb_session.specs.Reading.{files_of, AreModules, IsModuleRefused, RefusesModule, RefusesScript, IsAccepted}
+use Rattle.edb_session.specs.Reading.{files_of, AreModules, IsFaultOf, IsModuleRefused, RefusesModule, RefusesScript, IsAccepted}
 use Rattle.edb_session.specs.Texts.{rendering}
 
 -- The cause of an end, by what the words want, the lists of reads and the counts of the files' faults.
@@ -29,7 +29,7 @@ abbrev pub HasCause : Option Wanted → List Read → List Read → ℕ → ℕ 
 HasCause wanted old new before now Done = Unit {0}
 HasCause wanted old new before now Words = (wanted ≡ None) × (new ≡ old)
 HasCause wanted old new before now (FileFault k) = Rose before now × IsSomeAnd wanted (λ w. FailsAt (files_of w) old new k)
-HasCause wanted old new before now (ModuleRefused k NotYet) = IsSomeAnd wanted (λ w. RefusesModule w old new k)
+HasCause wanted old new before now (ModuleRefused k fault) = IsSomeAnd wanted (λ w. RefusesModule w old new k fault)
 HasCause wanted old new before now (ScriptRefused line) = IsSomeAnd wanted (λ w. RefusesScript w old new line)
 HasCause wanted old new before now Limit = Unit {0}
 HasCause wanted old new before now WriteFault = Unit {0}
@@ -70,7 +70,7 @@ name_at names k = slice_index_or names k []
 abbrev pub refusal_line : List (List ℕ) → End → List ℕ
 refusal_line names Words = codes "edb: words\n"
 refusal_line names (FileFault k) = (codes "edb: cannot read " ++ name_at names k) ++ codes "\n"
-refusal_line names (ModuleRefused k fault) = name_at names k ++ codes ": not yet\n"
+refusal_line names (ModuleRefused k fault) = fault_line (name_at names k) fault
 refusal_line names (ScriptRefused line) = ((name_at names 0 ++ codes ": line ") ++ decimal line) ++ codes "\n"
 refusal_line names Done = []
 refusal_line names Limit = []
@@ -126,15 +126,21 @@ IsRefusal Limit = ⊥
 IsRefusal WriteFault = ⊥
 IsRefusal NoMemory = Unit {0}
 
+-- why a session ends for file k, which has this text and is no module
+abbrev pub IsRefusedFor : List ℕ → ℕ → End → Type 0
+IsRefusedFor text k (ModuleRefused j fault) = (j ≡ k) × IsFaultOf text fault
+IsRefusedFor text k NoMemory = Unit {0}
+IsRefusedFor text k _ = ⊥
+
 -- why these texts aren't all modules
 abbrev pub RefusesTexts : List (List ℕ) → End → Type 0
-RefusesTexts texts (ModuleRefused k NotYet) = IsModuleRefused texts k
+RefusesTexts texts (ModuleRefused k fault) = IsModuleRefused texts k fault
 RefusesTexts texts NoMemory = Unit {0}
 RefusesTexts texts _ = ⊥
 
 -- why these texts aren't all modules, or the script isn't one
 abbrev pub RefusesAll : List ℕ → List (List ℕ) → End → Type 0
-RefusesAll script texts (ModuleRefused k NotYet) = IsModuleRefused texts k
+RefusesAll script texts (ModuleRefused k fault) = IsModuleRefused texts k fault
 RefusesAll script texts (ScriptRefused line) = ((trees : List ModuleTree) × AreModules texts trees) × IsScriptFault script line
 RefusesAll script texts NoMemory = Unit {0}
 RefusesAll script texts _ = ⊥

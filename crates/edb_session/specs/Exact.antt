@@ -13,7 +13,7 @@ use Rattle.edb_rules.specs.Notes.{facts}
 use Rattle.edb_rules.specs.Legal.{IsDone, IsLimit}
 use Rattle.edb_session.specs.declared.ending.End.{End}
 use Rattle.edb_session.specs.declared.ending.End.TheVariants.{Done, Words, ModuleRefused, ScriptRefused, Limit, NoMemory}
-use Rattle.edb_session.specs.declared.ending.ModuleFault.TheVariants.{NotYet}
+use Rattle.edb_verdict.specs.declared.fault.ModuleFault.{ModuleFault}
 use Rattle.edb_files.specs.InOrder.{AreRead}
 use Rattle.edb_files.specs.Ends.{IsOneOf}
 use Rattle.edb_options.specs.Options.{Wanted}
@@ -27,10 +27,11 @@ IsOnly = IsOneOf NoMemory
 abbrev pub WordsExactly : Option Wanted → End → Type 0
 WordsExactly wanted end = wanted ≡ None → IsOnly Words end
 
--- the first FILE that is no module
+-- the first FILE that is no module, with its fault
 abbrev pub ModuleExactly : Option Wanted → List Read → List Read → End → Type 0
 ModuleExactly wanted old new end =
-    (w : Wanted) (k : ℕ) → wanted ≡ Some w → RefusesModule w old new k → IsOnly (ModuleRefused k NotYet) end
+    (w : Wanted) (k : ℕ) (fault : ModuleFault) → wanted ≡ Some w → RefusesModule w old new k fault
+    → IsOnly (ModuleRefused k fault) end
 
 -- modules, and a script that is refused at this line
 abbrev pub ScriptExactly : Option Wanted → List Read → List Read → End → Type 0

@@ -5,6 +5,11 @@ use Rattle.edb_lang.specs.Syntax.{ModuleTree}
 use Rattle.edb_io.specs.OneRead.{Read}
 use Rattle.edb_files.specs.InOrder.{Asked, AreRead, ReadsUp, text_file}
 use Rattle.edb_small.specs.SmallModule.{IsModule}
+use Rattle.edb_syntax.specs.Syntax as syntax
+use Rattle.edb_verdict.specs.Verdicts as verdicts
+use Rattle.edb_verdict.specs.Verdicts.{HasFault}
+use Rattle.edb_verdict.specs.declared.fault.ModuleFault.{ModuleFault}
+use Rattle.edb_verdict.specs.declared.fault.ModuleFault.TheVariants.{Scan, Form, Check, NotYet}
 use Rattle.edb_cmds.specs.Listing.{IsScriptOf, IsScriptFault}
 use Rattle.edb_event.specs.Books.{commands_of}
 use Rattle.edb_options.specs.Options.{Wanted}
@@ -26,23 +31,31 @@ AreModules (text ∷ texts) (m ∷ ms) = IsModule text m × AreModules texts ms
 AreModules [] (m ∷ ms) = ⊥
 AreModules (text ∷ texts) [] = ⊥
 
--- text k, counted from 0, is no module, and each before it is one
-abbrev pub IsFirstRefused : List (List ℕ) → ℕ → Type 0
-IsFirstRefused [] k = ⊥
-IsFirstRefused (text ∷ texts) zero = IsNoModule text
-IsFirstRefused (text ∷ texts) (suc k) = ((m : ModuleTree) × IsModule text m) × IsFirstRefused texts k
+-- The fault of a text: the first one that it has as a text of the whole language; where it has none, the debugger doesn't run
+-- such a module yet.
+abbrev pub IsFaultOf : List ℕ → ModuleFault → Type 0
+IsFaultOf text NotYet = (m : syntax.ModuleTree) × verdicts.IsAccepted text m
+IsFaultOf text (Scan f) = HasFault text (Scan f)
+IsFaultOf text (Form f) = HasFault text (Form f)
+IsFaultOf text (Check f) = HasFault text (Check f)
 
--- file k, counted from the script, which is 0, is the first FILE that is no module
-abbrev pub IsModuleRefused : List (List ℕ) → ℕ → Type 0
-IsModuleRefused texts zero = ⊥
-IsModuleRefused texts (suc k) = IsFirstRefused texts k
+-- text k, counted from 0, is no module and has this fault, and each before it is one
+abbrev pub IsFirstRefused : List (List ℕ) → ℕ → ModuleFault → Type 0
+IsFirstRefused [] k fault = ⊥
+IsFirstRefused (text ∷ texts) zero fault = IsNoModule text × IsFaultOf text fault
+IsFirstRefused (text ∷ texts) (suc k) fault = ((m : ModuleTree) × IsModule text m) × IsFirstRefused texts k fault
 
--- all was read, and file k is the first FILE that is no module
-pub record RefusesModule (w : Wanted) (old new : List Read) (k : ℕ) : Type 0 where
+-- file k, counted from the script, which is 0, is the first FILE that is no module, and has this fault
+abbrev pub IsModuleRefused : List (List ℕ) → ℕ → ModuleFault → Type 0
+IsModuleRefused texts zero fault = ⊥
+IsModuleRefused texts (suc k) fault = IsFirstRefused texts k fault
+
+-- all was read, and file k is the first FILE that is no module, for this fault
+pub record RefusesModule (w : Wanted) (old new : List Read) (k : ℕ) (fault : ModuleFault) : Type 0 where
   pub script : List ℕ
   pub texts : List (List ℕ)
   pub read : AreRead (files_of w) old new (script ∷ texts)
-  pub refused : IsModuleRefused texts k
+  pub refused : IsModuleRefused texts k fault
 
 -- all was read, the FILEs are modules, and the script is bad at this line
 pub record RefusesScript (w : Wanted) (old new : List Read) (line : ℕ) : Type 0 where

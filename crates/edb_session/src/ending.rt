@@ -2,13 +2,7 @@
 
 use edb_event::Journal;
 use edb_model::Tables;
-
-/// Why a FILE was refused.
-#[derive(Clone, Copy, PartialEq, Eq, Debug)]
-pub enum ModuleFault {
-    /// The FILE isn't a text of the small language.
-    NotYet,
-}
+use edb_verdict::ModuleFault;
 
 /// How a session ended. Files are counted from the script, which is 0.
 #[derive(Clone, Copy, PartialEq, Eq, Debug)]
@@ -20,7 +14,7 @@ pub enum End {
     Words,
     /// This file could not be read.
     FileFault { file: u32 },
-    /// This FILE is no module.
+    /// This FILE is no module that the debugger runs, for this fault.
     ModuleRefused { file: u32, fault: ModuleFault },
     /// The script is bad at this line.
     ScriptRefused { line: u32 },

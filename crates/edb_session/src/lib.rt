@@ -6,6 +6,6 @@ mod laws;
 mod render;
 mod top;
 
-pub use ending::{End, Ending, ModuleFault};
+pub use ending::{End, Ending};
 pub use laws::written_journals_are_read;
 pub use top::session;

@@ -10,9 +10,9 @@ ghost use Rattle.edb_model.specs.Plain.{no_tables};
 ghost use Rattle.edb_options.specs.Options.{IsRanged, options_in};
 ghost use Rattle.edb_options.specs.Seeing.{wanted_of};
 ghost use Rattle.edb_small.specs.SmallModule.{IsModule};
-ghost use Rattle.edb_session.specs.Reading.{files_of, AreModules, IsNoModule, IsAccepted, ReadsSome};
+ghost use Rattle.edb_session.specs.Reading.{files_of, AreModules, IsFaultOf, IsNoModule, IsAccepted, ReadsSome};
 ghost use Rattle.edb_session.specs.Runs.{plan_with, IsRun};
-ghost use Rattle.edb_session.specs.Ends.{HasCause, Leaves, Performed, IsText, IsEmpty, IsWritten, IsRefusalWritten, KeepsFlag, IsRefusal, RefusesTexts, RefusesAll, name_at, refusal_line, status_of};
+ghost use Rattle.edb_session.specs.Ends.{HasCause, Leaves, Performed, IsText, IsEmpty, IsWritten, IsRefusalWritten, KeepsFlag, IsRefusal, RefusesTexts, RefusesAll, IsRefusedFor, name_at, refusal_line, status_of};
 ghost use Rattle.edb_session.specs.Exact.{WordsExactly, ModuleExactly, ScriptExactly, DoneExactly, LimitExactly, IsComplete};
 ghost use Rattle.edb_session.specs.Texts.{form_by, text_in};
 ghost use Rattle.edb_session.specs.Views.{texts_of};
@@ -20,7 +20,7 @@ ghost use Rattle.edb_world.specs.Plans.{IsPlan};
 ghost use Rattle.edb_world.specs.Outcomes.{IsOverBy};
 
 use crate::render::write_entries;
-use crate::{End, Ending, ModuleFault};
+use crate::{End, Ending};
 use edb_cmds::{one_listing, read_commands};
 use edb_event::{Command, Journal};
 use edb_files::{AskedFile, LineWrite, MOST_BYTES, ReadsFault, read_in_order, write_line};
@@ -29,6 +29,7 @@ use edb_lang::{Bytes, Module, Rows};
 use edb_model::{Checked, Code, Tables};
 use edb_options::{Options, Request, read_options};
 use edb_small::{modules_are_bounded, one_module, read_module};
+use edb_verdict::{ModuleFault, fault_text, one_verdict_a_text, verdict};
 use edb_world::{Outcome, run_world};
 use std::alloc::{AllocError, Global};
 
@@ -76,11 +77,31 @@ fn read_files<F: Files>(
     }
 }
 
+/// The first fault of a text; that the debugger doesn't run such a module yet, where it has none.
+fn fault_of(alloc: Global, text: &Bytes) -> Result<ModuleFault, AllocError>
+    ensures { IfOk result (λ fault. IsFaultOf text.now fault) }
+{
+    match verdict(alloc, text.as_slice())? {
+        Ok(_checked) => Ok(ModuleFault::NotYet),
+        Err(fault) => Ok(fault),
+    }
+}
+
 /// The module that a text holds, where it is one of the small language.
 fn find_module(alloc: Global, text: &Bytes) -> Result<Option<Module>, AllocError>
     ensures { IfOk result (λ found. MatchOption found (IsNoModule text.now) (λ m. IsModule text.now m)) }
 {
     read_module(alloc, text.as_slice())
+}
+
+/// How the session ends for this FILE, which isn't of the small language.
+fn module_refused(alloc: Global, text: &Bytes, file: u32) -> End
+    ensures { IsRefusedFor text.now file result }
+{
+    match fault_of(alloc, text) {
+        Ok(fault) => End::ModuleRefused { file, fault },
+        Err(_) => End::NoMemory,
+    }
 }
 
 /// The modules that these FILEs hold; else tells how the session ends, by the first that holds none.
@@ -98,12 +119,7 @@ fn read_modules(alloc: Global, texts: &[Bytes]) -> Result<Code, End>
                 Ok(_) => {}
                 Err(_) => return Err(End::NoMemory),
             },
-            Ok(None) => {
-                return Err(End::ModuleRefused {
-                    file,
-                    fault: ModuleFault::NotYet,
-                });
-            }
+            Ok(None) => return Err(module_refused(alloc, text, file)),
             Err(_) => return Err(End::NoMemory),
         }
     }
@@ -263,11 +279,7 @@ fn refusal_text(alloc: Global, names: &[&str], end: End) -> Result<Bytes, AllocE
             line.extend(b"\n")?;
             Ok(line)
         }
-        End::ModuleRefused { file, .. } => {
-            line.extend(file_name(names, file).as_bytes())?;
-            line.extend(b": not yet\n")?;
-            Ok(line)
-        }
+        End::ModuleRefused { file, fault } => fault_text(alloc, file_name(names, file), fault),
         End::ScriptRefused { line: number } => {
             line.extend(file_name(names, 0).as_bytes())?;
             line.extend(b": line ")?;
@@ -374,7 +386,7 @@ fn run_session<F: Files, S: Sink>(
 /// The words are options, a script's name and the names of one FILE or more, as `edb_options` reads them (`Words`,
 /// status 2, if they aren't). The script is read first and then each FILE in order, each up to 1,000,001 bytes (`FileFault`,
 /// status 3, with the first whose read fails). Each FILE is a module of the small language (`ModuleRefused`, status 4, with
-/// the first that isn't); the script's lines are blank or give the commands of docs/COMMANDS.md, with one `start` among them
+/// the first that isn't, and its first fault); the script's lines are blank or give the commands of docs/COMMANDS.md, with one `start` among them
 /// (`ScriptRefused`, status 5). Then the console's commands are answered in order and the process that they start is
 /// run, in slices of at most as many moves as `--slice` says, until all are answered and no process can go on (`Done`,
 /// status 0) or the journal's weight reaches what `--moves` says (`Limit`, status 6). Then the transcript is
@@ -415,6 +427,7 @@ pub fn session<F: Files, S: Sink + Drop>(
     ensures complete { IsComplete (options_in (map string_bytes words.now)) (F.reads files.old) (F.reads files.new) (F.faults files.old) (F.faults files.new) (S.faults sink) (S.faults result.1) result.0.end }
 {
     one_module();
+    one_verdict_a_text();
     one_listing();
     run_session(alloc, words, files, sink)
 }

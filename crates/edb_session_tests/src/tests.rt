@@ -110,6 +110,18 @@ fn runs_and_refuses(rt: HostRuntime) -> Result<(), Fail> {
             "start m go []",
             "f() -> if true -> 1 end.",
             4,
+            "f.erl: form 1 line 1\n",
+        ),
+        (
+            "start m go []",
+            "-module(m).\n-export([go/0]).\ngo() ->\n    X.\n",
+            4,
+            "f.erl: line 4 unbound\n",
+        ),
+        (
+            "start m go []",
+            "-module(m).\n-export([go/0]).\ngo() ->\n    if true -> 1 end.\n",
+            4,
             "f.erl: not yet\n",
         ),
         ("stop", THIN, 5, "s: line 1\n"),
@@ -241,7 +253,7 @@ fn takes_options_and_files(rt: HostRuntime) -> Result<(), Fail> {
             ["s", "shop.erl", "none.erl", "none.erl"].as_slice(),
             "stop",
             4,
-            "none.erl: not yet\n",
+            "none.erl: form 1 line 1\n",
         ),
         (
             ["s", "shop.erl", "spin.erl"].as_slice(),

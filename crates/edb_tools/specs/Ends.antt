@@ -1,18 +1,14 @@
 -- How the tool ends: the cause of each end, what it read, and what it wrote.
 
 use Rattle.std.specs.Prelude.{◌≡◌, ℕ, ◌⊎◌, Bool, true, List, [], ◌∷◌, ◌++◌, Option, None, Some, IsSomeAnd, codes}
-use Rattle.std.specs.Fmt.{decimal}
 use Rattle.std.specs.List.{flat_map}
 use Rattle.edb_io.specs.OneRead.{Read}
 use Rattle.edb_io.specs.Faults.{Rose}
 use Rattle.edb_io.specs.Writes.{Appended, AppendedPart}
 use Rattle.edb_syntax.specs.Syntax.{ModuleTree}
-use Rattle.edb_check.specs.declared.fault.CheckKind.{CheckKind}
-use Rattle.edb_check.specs.declared.fault.CheckKind.TheVariants as kind
 use Rattle.edb_gen.specs.Generated.{module_text, script_text}
 use Rattle.edb_print.specs.Layout.{text_of}
-use Rattle.edb_verdict.specs.declared.fault.ModuleFault.{ModuleFault}
-use Rattle.edb_verdict.specs.declared.fault.ModuleFault.TheVariants as fault
+use Rattle.edb_verdict.specs.FaultLines.{fault_line}
 use Rattle.edb_verdict.specs.Verdicts.{IsAccepted}
 use Rattle.edb_files.specs.InOrder.{Asked, AreRead, FailsAt, ReadsUp, name_at}
 use Rattle.edb_files.specs.Lines.{IsKeptOrSet, IsLineWritten}
@@ -81,24 +77,6 @@ pub record IsOutput (request : Request) (old new : List Read) (out : List ℕ) :
   pub read : AreRead request.files old new texts
   pub accepted : AreAccepted texts
   pub prints : Prints request.command request.files texts out
-
--- the words of the kinds of faults
-abbrev pub kind_text : CheckKind → List ℕ
-kind_text kind.Unbound = codes "unbound"
-kind_text kind.Unsafe = codes "unsafe"
-kind_text kind.Sibling = codes "sibling"
-kind_text kind.Float = codes "float"
-kind_text kind.Undefined = codes "undefined"
-kind_text kind.Duplicate = codes "duplicate"
-kind_text kind.NotExported = codes "not_exported"
-kind_text kind.BadGuard = codes "bad_guard"
-
--- the line of a fault of the file with this name
-abbrev pub fault_line : List ℕ → ModuleFault → List ℕ
-fault_line name (fault.Scan f) = ((name ++ codes ": scan fault at byte ") ++ decimal f.at) ++ codes "\n"
-fault_line name (fault.Form f) = ((((name ++ codes ": form ") ++ decimal f.form) ++ codes " line ") ++ decimal f.line) ++ codes "\n"
-fault_line name (fault.Check f) = ((((name ++ codes ": line ") ++ decimal f.line) ++ codes " ") ++ kind_text f.kind) ++ codes "\n"
-fault_line name fault.NotYet = name ++ codes ": not yet\n"
 
 -- the line of a refusal, the end's file having this name
 abbrev pub refusal_line : List ℕ → ToolEnd → List ℕ

@@ -1,7 +1,6 @@
 //! The lines that the tool writes.
 
-ghost use Rattle.std.specs.Prelude.{◌≡◌, ◌≤◌, ◌++◌, map, true, codes, IfOk, OnOk, OnErr};
-ghost use Rattle.std.specs.Fmt.{decimal};
+ghost use Rattle.std.specs.Prelude.{◌≡◌, ◌≤◌, map, true, IfOk, OnOk, OnErr};
 ghost use Rattle.std.specs.List.{flat_map};
 ghost use Rattle.std.specs.Result.{IsErrOf};
 ghost use Rattle.edb_io.specs.Faults.{Rose};
@@ -9,14 +8,13 @@ ghost use Rattle.edb_io.specs.Writes.{Appended, AppendedPart};
 ghost use Rattle.edb_files.specs.Asking.{asked_of};
 ghost use Rattle.edb_files.specs.InOrder.{name_at};
 ghost use Rattle.edb_files.specs.Lines.{TriesLine};
-ghost use Rattle.edb_tools.specs.Ends.{fault_line, file_of, joined, kind_text, ok_line, refusal_line};
+ghost use Rattle.edb_tools.specs.Ends.{file_of, joined, ok_line, refusal_line};
 
 use crate::ToolEnd;
-use edb_check::CheckKind;
 use edb_files::{AskedFile, LineWrite, write_line};
 use edb_io::{Sink, SinkFault};
 use edb_lang::Bytes;
-use edb_verdict::ModuleFault;
+use edb_verdict::fault_text;
 use std::alloc::{AllocError, Global};
 
 /// The name of the end's file, which is one of these; an empty text if it is about none.
@@ -40,57 +38,6 @@ fn place_of(end: ToolEnd) -> u32
         ToolEnd::Words => 0,
         ToolEnd::WriteFault => 0,
         ToolEnd::NoMemory => 0,
-    }
-}
-
-/// The word of a kind of fault.
-fn kind_word(kind: CheckKind) -> &'static [u8]
-    ensures { result.now ≡ kind_text kind }
-{
-    match kind {
-        CheckKind::Unbound => b"unbound",
-        CheckKind::Unsafe => b"unsafe",
-        CheckKind::Sibling => b"sibling",
-        CheckKind::Float => b"float",
-        CheckKind::Undefined => b"undefined",
-        CheckKind::Duplicate => b"duplicate",
-        CheckKind::NotExported => b"not_exported",
-        CheckKind::BadGuard => b"bad_guard",
-    }
-}
-
-/// The line of a fault of the file with this name. `Err` comes only out of memory.
-fn fault_text(alloc: Global, name: &str, fault: ModuleFault) -> Result<Bytes, AllocError>
-    ensures { IfOk result (λ line. line ≡ fault_line name.now fault) }
-{
-    let mut line = Bytes::from_slice(alloc, name.as_bytes())?;
-    match fault {
-        ModuleFault::Scan(fault) => {
-            line.extend(b": scan fault at byte ")?;
-            line.extend(fault.at.to_string(alloc)?.as_bytes())?;
-            line.extend(b"\n")?;
-            Ok(line)
-        }
-        ModuleFault::Form(fault) => {
-            line.extend(b": form ")?;
-            line.extend(fault.form.to_string(alloc)?.as_bytes())?;
-            line.extend(b" line ")?;
-            line.extend(fault.line.to_string(alloc)?.as_bytes())?;
-            line.extend(b"\n")?;
-            Ok(line)
-        }
-        ModuleFault::Check(fault) => {
-            line.extend(b": line ")?;
-            line.extend(fault.line.to_string(alloc)?.as_bytes())?;
-            line.extend(b" ")?;
-            line.extend(kind_word(fault.kind))?;
-            line.extend(b"\n")?;
-            Ok(line)
-        }
-        ModuleFault::NotYet => {
-            line.extend(b": not yet\n")?;
-            Ok(line)
-        }
     }
 }
 

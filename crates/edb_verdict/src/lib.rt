@@ -3,8 +3,10 @@
 
 mod fault;
 mod laws;
+mod lines;
 mod top;
 
 pub use fault::ModuleFault;
 pub use laws::one_verdict_a_text;
+pub use lines::fault_text;
 pub use top::verdict;

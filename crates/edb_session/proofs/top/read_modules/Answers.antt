@@ -8,8 +8,8 @@ use Rattle.edb_session.proofs.top.read_modules.Goals as goal
 pub returns-in-Ok-None-clause-err : goal.returns-in-Ok-None-clause-err
 returns-in-Ok-None-clause-err c =
     let bad : IsNoModule c.text-item.result = rw c.in-Ok-None.field-0-is at c.in-Ok-None.ensures in
-    refused_at c.args.texts.now c.loop-text.text-index c.loop-text.file c.text-item.result c.loop-text.code c.loop-text.invariant.modules (omega arith) c.text-item.is
-    c.loop-text.invariant.number bad
+    refused_at c.args.texts.now c.loop-text.text-index c.loop-text.file c.text-item.result c.loop-text.code c.module_refused.result c.loop-text.invariant.modules (omega arith) c.text-item.is
+    c.loop-text.invariant.number bad c.module_refused.ensures
 
 pub loop-text-preserved : goal.loop-text-preserved
 loop-text-preserved c =

@@ -11,7 +11,7 @@ returns-clause-exact_words g c =
 pub returns-clause-exact_module : goal.returns-clause-exact_module
 returns-clause-exact_module g c =
     module_exact (options_in (map string_bytes c.args.words.now)) (g.F.Files.reads c.args.files.now) (g.F.Files.reads c.run_session.new.files) (g.F.Files.faults c.args.files.now) (g.F.Files.faults c.run_session.new.files) (g.S.Sink.faults c.args.sink) (g.S.Sink.faults c.run_session.result.1) c.run_session.result.0.journal.entries c.run_session.result.0.tables (g.S.Sink.written c.args.sink) (g.S.Sink.written c.run_session.result.1) (g.S.Sink.flagged c.args.sink) (g.S.Sink.flagged c.run_session.result.1)
-    c.run_session.result.0.end c.run_session.ensures.cause c.run_session.ensures.run
+    c.one_verdict_a_text.ensures.one_fault c.one_verdict_a_text.ensures.never_both c.run_session.result.0.end c.run_session.ensures.cause c.run_session.ensures.run
 
 pub returns-clause-exact_script : goal.returns-clause-exact_script
 returns-clause-exact_script g c =

@@ -1,0 +1,3 @@
+pub mod Newest
+pub mod Views
+pub mod Points

@@ -1,0 +1,4 @@
+pub mod Heart
+pub mod Landing
+pub mod Turned
+pub mod BodiesTold
