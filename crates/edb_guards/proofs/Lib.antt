@@ -1,0 +1,4 @@
+pub mod BuiltInLaws
+pub mod Lists
+pub mod Stacks
+pub mod ValueLaws
