@@ -1,6 +1,6 @@
 //! The choice of a clause: the first whose patterns match and whose guard holds.
 
-ghost use Rattle.std.specs.Prelude.{◌≡◌, [], IfOk};
+ghost use Rattle.std.specs.Prelude.{◌≡◌, [], IfOk, map};
 ghost use Rattle.std.specs.Option.{option_map};
 ghost use Rattle.edb_syntax.specs.Syntax.{clauses_of};
 ghost use Rattle.edb_moves.specs.Clauses.{chosen, chosen_clause};
@@ -23,12 +23,12 @@ use std::alloc::{AllocError, Global};
 pub fn choose<'a>(
     alloc: Global,
     clauses: &'a [Clause],
-    arguments: &[Term],
+    arguments: &[&Term],
     sees: &[Captured],
     hidden: &[Captured],
     me: u32,
 ) -> Result<Option<Choice<'a>>, AllocError>
-    ensures { IfOk result (λ found. option_map (choice_of (newest_first sees.now (newest_first hidden.now []))) found ≡ chosen me (newest_first sees.now []) (newest_first hidden.now []) (clauses_of clauses.now) arguments.now) }
+    ensures { IfOk result (λ found. option_map (choice_of (newest_first sees.now (newest_first hidden.now []))) found ≡ chosen me (newest_first sees.now []) (newest_first hidden.now []) (clauses_of clauses.now) (map (λ t. t.now) arguments.now)) }
 {
     for clause in clauses {
         if let Some(choice) = choose_clause(alloc, clause, arguments, sees, hidden, me)? {
@@ -43,12 +43,12 @@ pub fn choose<'a>(
 fn choose_clause<'a>(
     alloc: Global,
     clause: &'a Clause,
-    arguments: &[Term],
+    arguments: &[&Term],
     sees: &[Captured],
     hidden: &[Captured],
     me: u32,
 ) -> Result<Option<Choice<'a>>, AllocError>
-    ensures { IfOk result (λ found. option_map (choice_of (newest_first sees.now (newest_first hidden.now []))) found ≡ chosen_clause me (newest_first sees.now []) (newest_first hidden.now []) clause.now arguments.now) }
+    ensures { IfOk result (λ found. option_map (choice_of (newest_first sees.now (newest_first hidden.now []))) found ≡ chosen_clause me (newest_first sees.now []) (newest_first hidden.now []) clause.now (map (λ t. t.now) arguments.now)) }
 {
     let Some(pairs) = match_all_new(alloc, &clause.patterns, arguments, sees, &[])? else {
         return Ok(None);

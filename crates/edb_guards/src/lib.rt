@@ -16,3 +16,4 @@ pub use catches::choose_catch;
 pub use choice::Choice;
 pub use clauses::choose;
 pub use guards::{guard_holds, guard_holds_under};
+pub use value::{Value, terms};

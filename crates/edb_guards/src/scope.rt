@@ -7,6 +7,7 @@ ghost use Rattle.edb_match.specs.Newest.{newest_first};
 ghost use Rattle.edb_guards.specs.Views.{scope_pairs};
 
 use edb_lang::{Bindings, Captured, Name, Term};
+use edb_match::newest_value;
 
 /// What is bound: sorted bindings, or three stacks of pairs, each with its newest pair last: what a clause's patterns bound,
 /// what they saw, and what stands behind both.
@@ -17,7 +18,7 @@ pub(crate) enum Scope<'a> {
 }
 
 impl<'a> Scope<'a> {
-    // The value of a variable.
+    /// The value of a variable.
     #[tactic(auto, unfolding(crate::specs::Views::scope_pairs))]
     pub(crate) fn get(&self, name: &Name) -> Option<&Term>
         ensures { option_copied result ≡ bound name.now (scope_pairs self.now) }
@@ -46,19 +47,4 @@ fn newest_of<'b>(
         return Some(value);
     }
     newest_value(hidden, name)
-}
-
-/// The value of the last pair with the name.
-fn newest_value<'b>(pairs: &'b [Captured], name: &Name) -> Option<&'b Term>
-    ensures { option_copied result ≡ bound name.now (newest_first pairs.now []) }
-{
-    let mut end = pairs.len();
-    while end > 0 {
-        end -= 1;
-        let last = &pairs[end];
-        if name.cmp(&last.name).is_eq() {
-            return Some(&last.value);
-        }
-    }
-    None
 }

@@ -1,4 +1,4 @@
-//! The values of tests: a variable's is only lent.
+//! Values that may be only lent.
 
 ghost use Rattle.std.specs.Prelude.{◌≡◌, IfOk, map};
 ghost use Rattle.std.specs.Option.{option_copied, option_map};
@@ -7,16 +7,16 @@ ghost use Rattle.edb_guards.specs.Views.{value_of};
 use edb_lang::Term;
 use std::alloc::{AllocError, Global};
 
-/// The value of a test: a variable's, or one that was made.
+/// A value: one that is only lent, as a variable's is, or one that was made.
 #[derive(Drop)]
-pub(crate) enum Value<'a> {
+pub enum Value<'a> {
     Lent(&'a Term),
     Made(Term),
 }
 
 impl<'a> Value<'a> {
-    // The term.
-    pub(crate) fn term(&self) -> &Term
+    /// The term.
+    pub fn term(&self) -> &Term
         ensures { result.now ≡ value_of self.now }
     {
         match self {
@@ -46,8 +46,8 @@ pub(crate) fn lent<'a>(term: Option<&'a Term>) -> Option<Value<'a>>
     }
 }
 
-/// The terms of values.
-pub(crate) fn terms<'b>(alloc: Global, values: &'b [Value]) -> Result<Vec<&'b Term>, AllocError>
+/// The terms of values, in their order. `AllocError` only if out of memory.
+pub fn terms<'b>(alloc: Global, values: &'b [Value]) -> Result<Vec<&'b Term>, AllocError>
     ensures { IfOk result (λ terms. map (λ t. t.now) terms.items ≡ map value_of values.now) }
 {
     let mut terms = Vec::new(alloc);

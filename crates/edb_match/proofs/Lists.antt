@@ -1,9 +1,9 @@
 -- Pairs in the order in which they were bound, with one more; what is bound in the first of them; the elements of a
 -- tuple; the measure of the recursion.
 
-use Rattle.std.proofs.Common.{◌≡◌, ap, refl, sym, ◌∙◌, arith, true≢false, ℕ, List, [], ◌∷◌, ◌++◌, ◌≤◌, ◌*◌, ◌+◌, length, take, get_or}
-use Rattle.std.specs.Prelude.{Option, Some, true, false}
-use Rattle.std.specs.Option.{option_or}
+use Rattle.std.proofs.Common.{◌≡◌, ◌≢◌, suc, ap, refl, sym, ◌∙◌, arith, true≢false, ℕ, List, [], ◌∷◌, ◌++◌, ◌≤◌, ◌*◌, ◌+◌, length, take, get_or}
+use Rattle.std.specs.Prelude.{Option, None, Some, true, false}
+use Rattle.std.specs.Option.{option_or, option_and_then}
 use Rattle.std.specs.declared.cmp.Ordering.{Ordering}
 use Rattle.std.specs.declared.cmp.Ordering.TheVariants.{Less, Equal, Greater}
 use Rattle.std.specs.Ordering.{nat_cmp, is_eq}
@@ -15,6 +15,7 @@ use Rattle.edb_lang.specs.Pairs.{Pairs, bound, by_order}
 use Rattle.edb_lang.specs.Terms.{Datum, of_list}
 use Rattle.edb_lang.specs.TermViews.{pairs_of}
 use Rattle.edb_pure.specs.Tuples.{items_of}
+use Rattle.edb_moves.specs.Matching.{matched, all_matched}
 use Rattle.edb_syntax.specs.Patterns.{Pat, pats_of}
 use Rattle.edb_syntax.specs.declared.pattern.Pattern.TheDeep.{size-Pattern}
 use Rattle.edb_syntax.specs.Sizes.{patterns_size}
@@ -90,6 +91,17 @@ newest_first-append (c ∷ cs) ps qs = newest_first-append cs ((c.name, c.value)
 
 pub bound_stack : (x : List ℕ) (cs : List Captured) (bs : Pairs) → bound x (newest_first cs bs) ≡ option_or (bound x (newest_first cs [])) (bound x bs)
 bound_stack x cs bs = ap (bound x) (newest_first-append cs [] bs) ∙ bound-append x (newest_first cs []) bs
+
+-- patterns and terms of which there aren't as many
+behind_first : (p : Pat) (ps : List Pat) (v : Datum) (vs : List Datum) (cs : Option Pairs) → ((ds : Pairs) → all_matched (pats_of ps) vs ds ≡ None) → option_and_then (λ ds. all_matched (pats_of ps) vs ds) cs ≡ None
+behind_first p ps v vs (Some ds) h = h ds
+behind_first p ps v vs None h = refl
+
+pub uneven : (ps : List Pat) (vs : List Datum) (bs : Pairs) → length ps ≢ length vs → all_matched (pats_of ps) vs bs ≡ None
+uneven [] [] bs h = absurd (h refl)
+uneven [] (v ∷ vs) bs h = refl
+uneven (p ∷ ps) [] bs h = refl
+uneven (p ∷ ps) (v ∷ vs) bs h = behind_first p ps v vs (matched p v bs) (λ ds. uneven ps vs ds (λ e. h (ap suc e)))
 
 pub ruleset lists = (
   newest_first-push,

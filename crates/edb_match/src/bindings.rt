@@ -1,6 +1,6 @@
 //! Matching under bindings.
 
-ghost use Rattle.std.specs.Prelude.{◌≡◌, [], IfOk};
+ghost use Rattle.std.specs.Prelude.{◌≡◌, [], IfOk, map};
 ghost use Rattle.std.specs.Option.{option_map};
 ghost use Rattle.edb_lang.specs.Pairs.{Pairs, bindings_of};
 ghost use Rattle.edb_lang.specs.TermViews.{pairs_of};
@@ -11,7 +11,7 @@ ghost use Rattle.edb_match.specs.Views.{known_pairs, with_lent};
 
 use crate::known::Known;
 use crate::lent::Lent;
-use crate::matching::{match_pattern, match_terms};
+use crate::matching::{match_arguments, match_pattern};
 use edb_lang::{Bindings, Captured, Term};
 use edb_syntax::Pattern;
 use std::alloc::{AllocError, Global};
@@ -60,21 +60,21 @@ pub fn match_new(
 pub fn match_all_new(
     alloc: Global,
     patterns: &[Pattern],
-    terms: &[Term],
+    terms: &[&Term],
     sees: &[Captured],
     hidden: &[Captured],
 ) -> Result<Option<Vec<Captured>>, AllocError>
-    ensures { IfOk result (λ found. option_map (λ new. newest_first new.items (newest_first sees.now (newest_first hidden.now []))) found ≡ all_matched (pats_of patterns.now) terms.now (newest_first sees.now (newest_first hidden.now []))) }
+    ensures { IfOk result (λ found. option_map (λ new. newest_first new.items (newest_first sees.now (newest_first hidden.now []))) found ≡ all_matched (pats_of patterns.now) (map (λ t. t.now) terms.now) (newest_first sees.now (newest_first hidden.now []))) }
 {
     let known = Known::Stack(sees, hidden);
     let mut lent = Vec::new(alloc);
-    if !match_terms(patterns, terms, &known, &mut lent)? {
+    if !match_arguments(patterns, terms, &known, &mut lent)? {
         return Ok(None);
     }
     Ok(Some(copied(alloc, &lent)?))
 }
 
-// The pairs, each copied, in their order.
+/// The pairs, each copied, in their order.
 fn copied(alloc: Global, lent: &[Lent]) -> Result<Vec<Captured>, AllocError>
     ensures { (bs : Pairs) → IfOk result (λ pairs. newest_first pairs.items bs ≡ with_lent lent.now bs) }
 {
@@ -87,7 +87,7 @@ fn copied(alloc: Global, lent: &[Lent]) -> Result<Vec<Captured>, AllocError>
     Ok(pairs)
 }
 
-// The new pairs, the newest first, and then the bindings.
+/// The new pairs, the newest first, and then the bindings.
 fn all_pairs(alloc: Global, lent: &[Lent], bindings: &Bindings) -> Result<Vec<Captured>, AllocError>
     ensures { IfOk result (λ pairs. pairs_of pairs.items ≡ with_lent lent.now bindings.now) }
 {

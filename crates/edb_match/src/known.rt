@@ -8,7 +8,7 @@ ghost use Rattle.edb_match.specs.Views.{known_pairs};
 
 use edb_lang::{Bindings, Captured, Name, Term};
 
-// Bindings that are only looked at: sorted ones, or a stack and what stands behind it.
+/// Bindings that are only looked at: sorted ones, or a stack and what stands behind it.
 #[derive(Clone, Copy)]
 pub(crate) enum Known<'a> {
     Sorted(&'a Bindings),
@@ -16,7 +16,7 @@ pub(crate) enum Known<'a> {
 }
 
 impl<'a> Known<'a> {
-    // The value of a variable.
+    /// The value of a variable.
     #[tactic(auto, using(crate::proofs::Lists::bound_stack))]
     pub(crate) fn get(&self, name: &Name) -> Option<&Term>
         ensures { option_copied result ≡ bound name.now (known_pairs self.now) }
@@ -31,8 +31,8 @@ impl<'a> Known<'a> {
     }
 }
 
-// The value of the last pair with the name.
-fn newest_value<'b>(pairs: &'b [Captured], name: &Name) -> Option<&'b Term>
+/// The value of a variable in pairs of which the last is the newest: that of the last pair with its name. Copies nothing.
+pub fn newest_value<'b>(pairs: &'b [Captured], name: &Name) -> Option<&'b Term>
     ensures { option_copied result ≡ bound name.now (newest_first pairs.now []) }
 {
     let mut end = pairs.len();

@@ -9,14 +9,14 @@ ghost use Rattle.edb_match.specs.Views.{known_pairs, with_lent};
 use crate::known::Known;
 use edb_lang::{Name, Term};
 
-// A variable and the term that it is bound to.
+/// A variable and the term that it is bound to.
 #[derive(Clone, Copy)]
 pub(crate) struct Lent<'a> {
     pub(crate) name: &'a Name,
     pub(crate) value: &'a Term,
 }
 
-// The value of a variable, by the newest pair of its name.
+/// The value of a variable, by the newest pair of its name.
 pub(crate) fn find<'b>(lent: &'b [Lent], known: &'b Known, name: &Name) -> Option<&'b Term>
     ensures { option_copied result ≡ bound name.now (with_lent lent.now (known_pairs known.now)) }
 {

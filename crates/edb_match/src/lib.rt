@@ -8,3 +8,4 @@ mod matching;
 mod texts;
 
 pub use bindings::{match_all_new, match_new, matches};
+pub use known::newest_value;

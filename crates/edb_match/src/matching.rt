@@ -1,6 +1,6 @@
 //! A pattern and a term, by reference: nothing is copied.
 
-ghost use Rattle.std.specs.Prelude.{◌≡◌, IfOk};
+ghost use Rattle.std.specs.Prelude.{◌≡◌, IfOk, map};
 ghost use Rattle.std.specs.Option.{option_map};
 ghost use Rattle.edb_syntax.specs.Patterns.{pats_of};
 ghost use Rattle.edb_moves.specs.Matching.{matched, all_matched, cells_matched, matched_variable};
@@ -13,7 +13,7 @@ use edb_lang::{Name, Node, Term};
 use edb_syntax::{Pattern, PatternNode};
 use std::alloc::AllocError;
 
-// Whether the term matches. What is bound is pushed; if the term doesn't match, what was pushed means nothing.
+/// Whether the term matches. What is bound is pushed; if the term doesn't match, what was pushed means nothing.
 #[cycle(matching)]
 pub(crate) fn match_pattern<'a>(
     pattern: &'a Pattern,
@@ -56,7 +56,7 @@ pub(crate) fn match_pattern<'a>(
     }
 }
 
-// A variable that has a value matches that one, and another one takes the term.
+/// A variable that has a value matches that one, and another one takes the term.
 fn match_variable<'a>(
     name: &'a Name,
     term: &'a Term,
@@ -74,9 +74,9 @@ fn match_variable<'a>(
     }
 }
 
-// Patterns and as many terms, one by one.
+/// Patterns and as many terms, one by one.
 #[cycle(matching)]
-pub(crate) fn match_terms<'a>(
+fn match_terms<'a>(
     patterns: &'a [Pattern],
     terms: &'a [Term],
     known: &Known,
@@ -97,7 +97,27 @@ pub(crate) fn match_terms<'a>(
     Ok(rest.is_empty())
 }
 
-// Patterns and the first elements of a list: what is behind them, if all match.
+/// Patterns and as many terms, one by one, where the terms don't stand together.
+pub(crate) fn match_arguments<'a>(
+    patterns: &'a [Pattern],
+    terms: &[&'a Term],
+    known: &Known,
+    lent: &mut Vec<Lent<'a>>,
+) -> Result<bool, AllocError>
+    ensures { IfOk result (λ ok. all_matched (pats_of patterns.now) (map (λ t. t.now) terms.now) (with_lent lent.old.items (known_pairs known.now)) ≡ left ok (with_lent lent.new.items (known_pairs known.now))) }
+{
+    if patterns.len() != terms.len() {
+        return Ok(false);
+    }
+    for index in 0..terms.len() {
+        if !match_pattern(&patterns[index], terms[index], known, lent)? {
+            return Ok(false);
+        }
+    }
+    Ok(true)
+}
+
+/// Patterns and the first elements of a list: what is behind them, if all match.
 #[cycle(matching)]
 fn match_cells<'a>(
     patterns: &'a [Pattern],

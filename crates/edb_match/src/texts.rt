@@ -9,7 +9,7 @@ ghost use Rattle.std.specs.Option.{option_copied};
 
 use edb_lang::{Name, Node, Term};
 
-// Whether the term is this integer.
+/// Whether the term is this integer.
 pub(crate) fn is_int(value: i128, term: &Term) -> bool
     ensures { result ≡ same_term (spec.int value) term.now }
 {
@@ -19,7 +19,7 @@ pub(crate) fn is_int(value: i128, term: &Term) -> bool
     }
 }
 
-// Whether the term is the atom of this name.
+/// Whether the term is the atom of this name.
 pub(crate) fn is_atom(name: &Name, term: &Term) -> bool
     ensures { result ≡ same_term (spec.atom name.now) term.now }
 {
@@ -29,7 +29,7 @@ pub(crate) fn is_atom(name: &Name, term: &Term) -> bool
     }
 }
 
-// Whether the term is the empty list.
+/// Whether the term is the empty list.
 pub(crate) fn is_nil(term: &Term) -> bool
     ensures { result ≡ same_term spec.nil term.now }
 {
@@ -39,7 +39,7 @@ pub(crate) fn is_nil(term: &Term) -> bool
     }
 }
 
-// Whether the term is the string of these code points.
+/// Whether the term is the string of these code points.
 pub(crate) fn is_string(points: &[u32], term: &Term) -> bool
     ensures { result ≡ same_term (string_of points.now) term.now }
 {
@@ -53,7 +53,7 @@ pub(crate) fn is_string(points: &[u32], term: &Term) -> bool
     is_nil(rest)
 }
 
-// What is behind the first element of a list that begins with this code point.
+/// What is behind the first element of a list that begins with this code point.
 fn behind(point: u32, term: &Term) -> Option<&Term>
     ensures { option_copied result ≡ behind_point point term.now }
 {

@@ -5,3 +5,6 @@ pub mod Reading
 pub mod Options
 -- the code's types, as contracts see them
 pub mod Seeing
+-- devices of proof
+pub mod Given
+pub mod Command

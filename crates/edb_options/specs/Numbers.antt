@@ -1,10 +1,8 @@
 -- The numbers of options.
 
-use Rattle.std.specs.Prelude.{ℕ, ◌≤◌, Option, Some, None, IfSome}
+use Rattle.std.specs.Prelude.{ℕ, Option, Some, None}
 use Rattle.edb_files.specs.Numbers.{number_in}
-use Rattle.edb_options.specs.Words.{Text}
-use Rattle.edb_options.specs.declared.kinds.Kind.{Kind}
-use Rattle.edb_options.specs.declared.kinds.Kind.TheVariants.{Hands, Slice, Moves}
+use Rattle.edb_options.specs.Words.{Text, Kind, Hands, Slice, Moves}
 
 -- There is one hand, a slice is of 1 to 4,096 pure moves, and a journal is over at a weight of 1 to 1,000,000.
 abbrev pub number_of : Kind → Text → Option ℕ
@@ -16,7 +14,3 @@ number_of Moves value = number_in 1 1000000 value
 abbrev pub once : Option ℕ → Option ℕ → Option ℕ
 once None number = number
 once (Some before) number = None
-
--- a number from `least` to `most`, where there is one
-abbrev pub IsIn : ℕ → ℕ → Option ℕ → Type 0
-IsIn least most number = IfSome number (λ n. (least ≤ n) × (n ≤ most))

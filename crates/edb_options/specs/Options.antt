@@ -2,10 +2,7 @@
 
 use Rattle.std.specs.Prelude.{◌≤◌, Bool, true, false, ◌&&◌, nat_le, nat_lt, if◌then◌else◌, List, [], length, Option, Some, None, option_and_then, unwrap_or}
 use Rattle.edb_options.specs.Words.{Text}
-use Rattle.edb_options.specs.Reading.{read_words, start}
-use Rattle.edb_options.specs.declared.state.Place.{Place}
-use Rattle.edb_options.specs.declared.state.Place.TheVariants.{Open, Waits, Ended}
-use Rattle.edb_options.specs.declared.state.State.{State}
+use Rattle.edb_options.specs.Reading.{Place, Open, Waits, Ended, State, read_words, start}
 use Rattle.edb_options.specs.declared.request.Options.{Options}
 
 -- the options, and the names as texts: the script's, and then those of the files

@@ -1,15 +1,24 @@
 -- The words read from left to right.
 
-use Rattle.std.specs.Prelude.{Bool, true, false, not, if◌then◌else◌, List, [], ◌∷◌, ◌++◌, Option, Some, None, option_and_then}
+use Rattle.std.specs.Prelude.{ℕ, Bool, true, false, not, if◌then◌else◌, List, [], ◌∷◌, ◌++◌, Option, Some, None, option_and_then}
 use Rattle.std.specs.Option.{option_map}
 use Rattle.edb_files.specs.Names.{is_option}
-use Rattle.edb_options.specs.Words.{Text, What, Name, End, Journal, Alone, Joined, Unknown, word_of}
-use Rattle.edb_options.specs.Numbers.{IsIn, number_of, once}
-use Rattle.edb_options.specs.declared.kinds.Kind.{Kind}
-use Rattle.edb_options.specs.declared.kinds.Kind.TheVariants.{Hands, Slice, Moves}
-use Rattle.edb_options.specs.declared.state.Place.{Place}
-use Rattle.edb_options.specs.declared.state.Place.TheVariants.{Open, Waits, Ended}
-use Rattle.edb_options.specs.declared.state.State.{State}
+use Rattle.edb_options.specs.Words.{Text, Kind, Hands, Slice, Moves, What, Name, End, Journal, Alone, Joined, Unknown, word_of}
+use Rattle.edb_options.specs.Numbers.{number_of, once}
+
+-- What the next word may be: an option or a name; the number of an option; a name, behind `--`.
+pub data Place : Type 0 where
+  Open : Place
+  Waits : Kind → Place
+  Ended : Place
+
+-- the options so far
+pub record State : Type 0 where
+  pub place : Place
+  pub hands : Option ℕ
+  pub slice : Option ℕ
+  pub moves : Option ℕ
+  pub journal : Bool
 
 -- before the first word
 abbrev pub start : State
@@ -53,7 +62,3 @@ unfoldable pub read_words : State → List Text → List Text → Option (State 
 read_words s names [] = Some (s, names)
 read_words s names (word ∷ words) = if is_name s.place word then read_words s (names ++ word ∷ []) words
     else option_and_then (λ t. read_words t names words) (with_option s word)
-
--- the numbers so far are in their ranges
-abbrev pub HasRanges : State → Type 0
-HasRanges s = IsIn 1 4096 s.slice × IsIn 1 1000000 s.moves

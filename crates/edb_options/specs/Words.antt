@@ -3,11 +3,16 @@
 use Rattle.std.specs.Prelude.{ℕ, if◌then◌else◌, ◌==◌, List, [], ◌∷◌, Option, Some, None, codes}
 use Rattle.std.specs.Str.{bytes_eq}
 use Rattle.edb_files.specs.Names.{is_option}
-use Rattle.edb_options.specs.declared.kinds.Kind.{Kind}
-use Rattle.edb_options.specs.declared.kinds.Kind.TheVariants.{Hands, Slice, Moves}
 
 abbrev pub Text : Type 0
 Text = List ℕ
+
+-- The options that take a number: how many hands run the program, how many pure moves a slice has at most, and at which
+-- weight a journal is over.
+pub data Kind : Type 0 where
+  Hands : Kind
+  Slice : Kind
+  Moves : Kind
 
 -- A word is a name (of the script or a file), `--`, `--journal`, an option that takes a number, such an option with
 -- `=` and its number, or none of these: it begins as an option does, and there is no such option.

@@ -1,8 +1,7 @@
 //! The words of `edb`: its options, the script and the files.
 #![tactic(auto)]
 
-mod kinds;
+mod matching;
 mod request;
-mod state;
 
 pub use request::{Options, Request, read_options};

@@ -1,23 +1,37 @@
 //! What the words of `edb` ask for.
 
-ghost use Rattle.std.specs.Prelude.{◌≡◌, ◌≤◌, ◌<◌, ◌^◌, [], length, map, string_bytes, IfOk, IfSome};
+ghost use Rattle.std.specs.Prelude.{◌≡◌, ◌≤◌, ◌<◌, ◌^◌, length, map, string_bytes, IfOk, IfSome};
 ghost use Rattle.std.specs.Option.{option_map};
-ghost use Rattle.edb_options.specs.Options as rules;
-ghost use Rattle.edb_options.specs.Options.{IsRanged, options_in, wanted_at};
-ghost use Rattle.edb_options.specs.Reading.{HasRanges, read_words, start};
-ghost use Rattle.edb_options.specs.Seeing.{found_of, wanted_of};
+ghost use Rattle.clap.specs.Words.{found_of, rows_of};
+ghost use Rattle.edb_options.specs.Command.{Holds};
+ghost use Rattle.edb_options.specs.Given as rules;
+ghost use Rattle.edb_options.specs.Given.{Given, options_by, wanted_by};
+ghost use Rattle.edb_options.specs.Options.{IsRanged, options_in};
+ghost use Rattle.edb_options.specs.Seeing.{wanted_of};
 
-use crate::state::{Place, State, is_name, with_option};
+use crate::matching::match_words;
+use clap::ArgMatches;
+use clap::error::ErrorKind;
+use edb_files::read_number;
 use std::alloc::{AllocError, Global};
 
 /// There are fewer words than this, so that each file has a number below 2^32.
 const WORDS_END: usize = 4_294_967_295;
 
+/// How many hands run the program.
+const HANDS: u32 = 1;
+
 /// How many pure moves a slice has at most, where the words don't say it.
 const SLICE: u32 = 100;
 
+/// The most pure moves of a slice.
+const MOST_SLICE: u32 = 4_096;
+
 /// The weight at which a journal is over, where the words don't say it.
 const MOVES: u32 = 100_000;
+
+/// The greatest weight at which a journal is over.
+const MOST_MOVES: u32 = 1_000_000;
 
 /// The options of a run.
 #[derive(Clone, Copy, Debug, PartialEq, Eq)]
@@ -39,94 +53,54 @@ pub struct Request<'a> {
     pub names: Vec<&'a str>,
 }
 
-/// What the words gave.
-#[derive(Drop)]
-pub(crate) struct Found<'a> {
-    pub(crate) state: State,
-    pub(crate) names: Vec<&'a str>,
-}
-
-/// Before the first word.
-fn start_state() -> State
-    ensures start { result ≡ start }
-    ensures ranges { HasRanges result }
+/// The number of an option, from 1 to `most`, or `default` where the option isn't given.
+fn number_or(value: Option<&str>, most: u32, default: u32) -> Option<u32>
+    requires range { (1 ≤ default) × (default ≤ most) }
+    ensures number { result ≡ rules.number_or most default (option_map (λ v. v.now) value.entry) }
+    ensures range { IfSome result (λ n. (1 ≤ n) × (n ≤ most)) }
 {
-    State {
-        place: Place::Open,
-        hands: None,
-        slice: None,
-        moves: None,
-        journal: false,
+    match value {
+        Some(value) => read_number(value, 1, most),
+        None => Some(default),
     }
 }
 
-/// Reads the words from left to right; nothing where one is refused. `Err` comes only out of memory.
-fn read_all<'a>(alloc: Global, words: &'a [String]) -> Result<Option<Found<'a>>, AllocError>
-    ensures found { IfOk result (λ found. option_map found_of found ≡ read_words start [] (map string_bytes words.now)) }
-    ensures ranges { IfOk result (λ found. IfSome found (λ f. HasRanges f.state)) }
-    ensures few { IfOk result (λ found. IfSome found (λ f. length f.names.items ≤ length words.now)) }
+/// The options; nothing where a number is none, or is out of its range.
+fn read_numbers(matches: &ArgMatches<'_>) -> Option<Options>
+    ensures options { (g : Given) → Holds g (rows_of (found_of matches.now)) → result ≡ options_by g }
+    ensures ranges { IfSome result IsRanged }
 {
-    let mut names = Vec::new(alloc);
-    let mut state = start_state();
-    for word in words {
-        let word = word.as_str();
-        if is_name(state, word) {
-            names.push(word)?;
-        } else {
-            let Some(next) = with_option(state, word) else {
-                return Ok(None);
-            };
-            state = next;
-        }
-    }
-    Ok(Some(Found { state, names }))
-}
-
-/// Whether no option waits for its number.
-fn is_settled(place: Place) -> bool
-    ensures { result ≡ rules.is_settled place }
-{
-    match place {
-        Place::Open => true,
-        Place::Waits(_) => false,
-        Place::Ended => true,
-    }
-}
-
-/// The options, with those that the words don't give.
-fn chosen(state: State) -> Options
-    requires ranges { HasRanges state }
-    ensures chosen { result ≡ rules.chosen state }
-    ensures ranges { IsRanged result }
-{
-    let slice = state.slice.unwrap_or(SLICE);
-    let moves = state.moves.unwrap_or(MOVES);
-    Options {
+    let _hands = number_or(matches.get_str("hands"), HANDS, HANDS)?;
+    let slice = number_or(matches.get_str("slice"), MOST_SLICE, SLICE)?;
+    let moves = number_or(matches.get_str("moves"), MOST_MOVES, MOVES)?;
+    let journal = matches.get_flag("journal");
+    Some(Options {
         slice,
         moves,
-        journal: state.journal,
-    }
+        journal,
+    })
 }
 
-/// What was found, where it is all that has to be there.
-fn make_request(found: Found<'_>) -> Option<Request<'_>>
-    requires ranges { HasRanges found.state }
-    ensures wanted { option_map wanted_of result ≡ wanted_at (found_of found.entry) }
-    ensures ranges { IfSome result (λ r. IsRanged r.options) }
-    ensures enough { IfSome result (λ r. 2 ≤ length r.names.items) }
-    ensures few { IfSome result (λ r. length r.names.items ≤ length found.entry.names.items) }
+/// What was given, where it is all that has to be there and its numbers are in their ranges.
+fn make_request<'a>(
+    alloc: Global,
+    matches: &ArgMatches<'a>,
+) -> Result<Option<Request<'a>>, AllocError>
+    ensures wanted { (g : Given) → Holds g (rows_of (found_of matches.now)) → IfOk result (λ found. option_map wanted_of found ≡ wanted_by g) }
+    ensures ranges { IfOk result (λ found. IfSome found (λ r. IsRanged r.options)) }
+    ensures enough { IfOk result (λ found. IfSome found (λ r. 2 ≤ length r.names.items)) }
 {
-    if !is_settled(found.state.place) {
-        return None;
+    let Some(names) = matches.get_strs("names") else {
+        return Ok(None);
+    };
+    if names.len() < 2 {
+        return Ok(None);
     }
-    if found.names.len() < 2 {
-        return None;
-    }
-    let options = chosen(found.state);
-    Some(Request {
-        options,
-        names: found.names,
-    })
+    let Some(options) = read_numbers(matches) else {
+        return Ok(None);
+    };
+    let names = Vec::from_slice(alloc, names)?;
+    Ok(Some(Request { options, names }))
 }
 
 /// What the words after the program's name ask for:
@@ -148,8 +122,11 @@ pub fn read_options<'a>(
     if words.len() >= WORDS_END {
         return Ok(None);
     }
-    let Some(found) = read_all(alloc, words)? else {
-        return Ok(None);
-    };
-    Ok(make_request(found))
+    match match_words(alloc, words) {
+        Ok(matches) => make_request(alloc, &matches),
+        Err(error) => match error.kind() {
+            ErrorKind::OutOfMemory => Err(AllocError),
+            _ => Ok(None),
+        },
+    }
 }

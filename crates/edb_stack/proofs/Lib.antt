@@ -2,3 +2,9 @@ pub mod Heart
 pub mod Landing
 pub mod Turned
 pub mod BodiesTold
+pub mod MarkLaws
+pub mod PathLaws
+pub mod OpenLayers
+pub mod Walk
+pub mod Fits
+pub mod FeedLaws

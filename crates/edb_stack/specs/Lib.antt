@@ -4,3 +4,8 @@ pub mod Places
 pub mod Marks
 pub mod Landings
 pub mod Bodies
+pub mod Views
+pub mod Redexes
+pub mod Paths
+pub mod Holes
+pub mod Feeding

@@ -1,11 +1,11 @@
--- Bindings of which the layers within a Body see the same.
+-- Bindings of which the layers within a Body see the same, and marks that lie among them.
 
-use Rattle.std.specs.Prelude.{◌≡◌, List, [], ◌∷◌}
+use Rattle.std.specs.Prelude.{◌≡◌, ◌<◌, ◌≤◌, ℕ, List, [], ◌∷◌, length}
 use Rattle.edb_lang.specs.Pairs.{Pairs}
 use Rattle.edb_variables.specs.PairStacks.{oldest}
 use Rattle.edb_moves.specs.Running.{Frame, Run, Runs, around}
 use Rattle.edb_moves.specs.Going.{Place, inside, turns, turned_in}
-use Rattle.edb_stack.specs.Parts.{Layer, operands, frame, scope, caught, tried, waiting, body}
+use Rattle.edb_stack.specs.Parts.{Item, held, placed, Layer, operands, frame, scope, caught, tried, waiting, body}
 use Rattle.edb_stack.specs.Trees.{before}
 
 -- A frame that has no bindings of its own: within it are those that are outside, and a tree is put back as it is.
@@ -35,3 +35,21 @@ Agree (caught m ∷ ls) a b = (oldest m a ≡ oldest m b) × Agree ls a b
 Agree (tried m cs hs ∷ ls) a b = (oldest m a ≡ oldest m b) × Agree ls a b
 Agree (waiting m s ∷ ls) a b = (oldest m a ≡ oldest m b) × Agree ls a b
 Agree (body o ∷ ls) a b = Unit {0}
+
+-- Operands whose places are among so many pairs.
+abbrev pub AllBelow : ℕ → List Item → Type 0
+AllBelow n [] = Unit {0}
+AllBelow n (held v ∷ xs) = AllBelow n xs
+AllBelow n (placed k ∷ xs) = (k < n) × AllBelow n xs
+
+-- Layers whose marks and places are among so many pairs, which are those of the hole. A layer that keeps bindings was there
+-- before all that is newer than its mark, and so were the layers round it.
+abbrev pub Marked : List Layer → ℕ → Type 0
+Marked [] n = Unit {0}
+Marked (operands o done rest ∷ ls) n = AllBelow n done × Marked ls n
+Marked (frame f ∷ ls) n = Marked ls n
+Marked (scope m ∷ ls) n = (m ≤ n) × Marked ls m
+Marked (caught m ∷ ls) n = (m ≤ n) × Marked ls m
+Marked (tried m cs hs ∷ ls) n = (m ≤ n) × Marked ls m
+Marked (waiting m s ∷ ls) n = (m ≤ n) × Marked ls m
+Marked (body o ∷ ls) n = Marked ls (length o.bindings)

@@ -1,6 +1,6 @@
 //! A stack with room.
 
-ghost use Rattle.std.specs.Prelude.{◌≡◌, ◌≤◌, ◌<◌, ◌+◌, ◌∷◌, ◌++◌, [], OnOk, length, reverse, MatchOption, slice_get};
+ghost use Rattle.std.specs.Prelude.{◌≡◌, ◌≤◌, ◌<◌, ◌+◌, ◌^◌, ◌∷◌, ◌++◌, [], OnOk, length, reverse, MatchOption, slice_get};
 ghost use Rattle.std.specs.Option.{option_copied};
 
 use std::alloc::{AllocError, Global};
@@ -31,9 +31,10 @@ impl<T> Stack<T> {
         }
     }
 
-    /// How many items there are.
+    /// How many items there are, which is below 2^63.
     pub fn len(&self) -> usize
-        ensures { result ≡ length self.now.0 }
+        ensures count { result ≡ length self.now.0 }
+        ensures small { result < 2 ^ 63 }
     {
         self.items.len()
     }
@@ -72,7 +73,7 @@ impl<T> Stack<T> {
     /// Takes the item on top away, where there is one.
     pub fn pop(&mut self) -> Option<T>
         ensures items { MatchOption result ((self.old.0 ≡ []) × (self.new.0 ≡ [])) (λ item. self.old.0 ≡ item ∷ self.new.0) }
-        ensures room { self.old.1 ≤ self.new.1 }
+        ensures room { MatchOption result (self.old.1 ≤ self.new.1) (λ item. self.old.1 + 1 ≤ self.new.1) }
     {
         self.items.pop()
     }

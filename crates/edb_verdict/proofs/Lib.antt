@@ -1,1 +1,4 @@
 pub mod OneVerdict
+pub mod TokenBounds
+pub mod Bounds
+pub mod TreeBounds

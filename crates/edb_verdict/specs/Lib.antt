@@ -1,2 +1,4 @@
 pub mod Verdicts
 pub mod FaultLines
+pub mod Bounds
+pub mod TreeBounds

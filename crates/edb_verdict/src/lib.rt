@@ -7,6 +7,6 @@ mod lines;
 mod top;
 
 pub use fault::ModuleFault;
-pub use laws::one_verdict_a_text;
+pub use laws::{accepted_is_bounded, one_verdict_a_text, trees_are_bounded};
 pub use lines::fault_text;
 pub use top::verdict;

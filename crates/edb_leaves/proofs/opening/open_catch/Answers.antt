@@ -1,0 +1,9 @@
+use Rattle.std.proofs.Common.{length}
+use Rattle.edb_leaves.proofs.Leading.{none_new, pushed, no_layers, keeps_caught}
+use Rattle.edb_leaves.proofs.opening.open_catch.Goals as goal
+
+pub returns-clause-suits : goal.returns-clause-suits
+returns-clause-suits c =
+    let n = length c.args.variables.now.pairs in
+    let fit = keeps_caught n c.len.result _ c.len.ensures (no_layers n c.new-layers.result.items c.new-layers.ensures.items) in
+    none_new n c.new.result.items c.in_ok-path.path c.new.ensures.items (c.in_ok-path.ensures.leads n n (pushed n n c.new-layers.result.items c.push.new.self.items _ c.in_ok-push.ensures.items fit))

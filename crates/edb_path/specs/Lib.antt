@@ -1,0 +1,4 @@
+pub mod Plans
+pub mod Sights
+pub mod Steps
+pub mod Waiting
