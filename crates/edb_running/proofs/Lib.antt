@@ -1,0 +1,7 @@
+pub mod RiseLaws
+pub mod Cuts
+pub mod DepthLaws
+pub mod SoundLaws
+pub mod CommitLaws
+pub mod BeyondLaws
+pub mod Scans

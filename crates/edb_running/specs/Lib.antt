@@ -1,0 +1,4 @@
+pub mod Standing
+pub mod Rising
+pub mod Outermost
+pub mod Vacant

@@ -1,0 +1,12 @@
+//! An expression that runs, as the layers round its redex, and what a plan does to it.
+#![tactic(auto)]
+
+mod commit;
+mod keep;
+mod outward;
+mod rise;
+mod running;
+
+pub use outward::next_code;
+pub use rise::Left;
+pub use running::Running;
