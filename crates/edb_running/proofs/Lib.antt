@@ -5,3 +5,4 @@ pub mod SoundLaws
 pub mod CommitLaws
 pub mod BeyondLaws
 pub mod Scans
+pub mod WayLaws

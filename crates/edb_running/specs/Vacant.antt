@@ -1,6 +1,6 @@
 -- The hole once the redex is gone from it.
 
-use Rattle.std.specs.Prelude.{ℕ, List, [], ◌∷◌, length}
+use Rattle.std.specs.Prelude.{ℕ, List, [], ◌∷◌, length, Option}
 use Rattle.edb_lang.specs.Terms.{Datum, nil}
 use Rattle.edb_moves.specs.Running.{Info}
 use Rattle.edb_stack.specs.Parts as parts
@@ -10,7 +10,10 @@ use Rattle.edb_stack.specs.declared.layer.Layer.{Layer}
 use Rattle.edb_stack.specs.declared.redex.Redex.{Redex}
 use Rattle.edb_stack.specs.declared.redex.Redex.TheVariants.{Leaf, Apply, Value}
 use Rattle.edb_path.specs.declared.plan.Plan.{Plan}
-use Rattle.edb_path.specs.declared.plan.Plan.TheVariants.{Passes, Turns}
+use Rattle.edb_path.specs.declared.plan.Plan.TheVariants.{Gives, Passes, Turns}
+use Rattle.edb_stack.specs.declared.redex.Path.{Path}
+use Rattle.edb_syntax.specs.Syntax.{Exp}
+use Rattle.edb_running.specs.Rising.{IsNext}
 use Rattle.edb_running.specs.Standing.{layers_in, info_in, pairs_in}
 use Rattle.edb_running.specs.declared.running.Running.{Running}
 
@@ -46,3 +49,9 @@ abbrev pub pair_count : Plan → ℕ
 pair_count (Passes new) = length new.items
 pair_count (Turns new w) = length new.items
 pair_count _ = 0
+
+-- The way that a plan needs: where it leaves a value in the hole, the way to the code that is evaluated next.
+abbrev pub HasWay : Plan → Option Path → Option Exp → Type 0
+HasWay (Gives x) w e = IsNext w e
+HasWay (Passes new) w e = IsNext w e
+HasWay _ w e = Unit {0}

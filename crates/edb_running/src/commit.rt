@@ -17,7 +17,7 @@ ghost use Rattle.edb_path.specs.Plans.{effect, Suits};
 ghost use Rattle.edb_path.specs.declared.plan.Plan.TheVariants.{Raises, Passes, Turns, Enters, Replaces};
 ghost use Rattle.edb_running.specs.Standing.{layers_in, info_in, pairs_in, tree_in, Holds, Sound};
 ghost use Rattle.edb_running.specs.Outermost.{beyond};
-ghost use Rattle.edb_running.specs.Vacant.{code_behind, round_hole, hole_in, filling, plan_count, pair_count};
+ghost use Rattle.edb_running.specs.Vacant.{HasWay, code_behind, round_hole, hole_in, filling, plan_count, pair_count};
 ghost use Rattle.edb_running.specs.Rising.{next_code, IsNext, next_count, left_of, IsSound};
 
 use crate::keep::cut_keeping;
@@ -30,13 +30,12 @@ use edb_syntax::Sequence;
 use std::mem;
 
 impl<'a> Running<'a> {
-    /// Does what a plan says that raises nothing. `next` is the way to the code that is evaluated once a value stands in the
-    /// hole. Takes no memory.
+    /// Does what a plan says that raises nothing, with the way and the room that `prepare` made. Takes no memory.
     pub fn commit(&mut self, plan: Plan<'a>, next: Option<Path<'a>>) -> Left<'a>
         requires sound { Sound self.old }
         requires quiet { (r : Raise) → plan ≢ Raises r }
         requires suits { Suits (length (hole_in self.old).bindings) plan }
-        requires next { IsNext next (next_code (code_behind self.old.layers.0 self.old.redex)) }
+        requires next { HasWay plan next (next_code (code_behind self.old.layers.0 self.old.redex)) }
         requires room { plan_count plan + next_count next + 1 ≤ self.old.layers.1 }
         requires pair_room { pair_count plan ≤ self.old.here.variables.room }
         ensures effect { (p : Place) → left_of p self.new result ≡ out p (round_hole self.old) (hole_in self.old) (effect (place p (round_hole self.old) (hole_in self.old)) (filling self.old) plan.entry) }

@@ -4,6 +4,7 @@
 mod commit;
 mod keep;
 mod outward;
+mod prepare;
 mod rise;
 mod running;
 

@@ -1,4 +1,4 @@
-use Rattle.std.proofs.Common.{ap, sym, ◌∙◌}
+use Rattle.std.proofs.Common.{ap, sym, subst, ◌∙◌}
 use Rattle.edb_moves.specs.Running.{value}
 use Rattle.edb_moves.specs.Going.{turns}
 use Rattle.edb_stack.specs.Places.{place, out}
@@ -8,7 +8,8 @@ use Rattle.edb_stack.proofs.Turned.{place_bindings}
 use Rattle.edb_path.specs.Plans.{effect}
 use Rattle.edb_path.specs.declared.plan.Plan.TheVariants as plan
 use Rattle.edb_running.specs.Standing.{layers_in, info_in, pairs_in}
-use Rattle.edb_running.specs.Vacant.{round_hole, hole_in, filling}
+use Rattle.edb_running.specs.Rising.{next_code, IsNext}
+use Rattle.edb_running.specs.Vacant.{HasWay, code_behind, round_hole, hole_in, filling}
 use Rattle.edb_running.specs.declared.running.Running.{Running}
 use Rattle.edb_running.proofs.CommitLaws.{in_hole}
 use Rattle.edb_running.proofs.running.Running.commit.Goals as goal
@@ -41,3 +42,13 @@ returns-in-Replaces-clause-effect c = λ p.
     c.replace.ensures.effect p (value_in (pairs_in s) c.vacate-item.result)
     ∙ in_hole p c.args.self.now s (value_in (pairs_in s) c.vacate-item.result) (plan.Replaces c.in-Replaces.body c.in-Replaces.sequence) c.vacate-item.ensures.layers c.vacate-item.ensures.info c.vacate-item.ensures.value
     ∙ ap (λ a. out p (round_hole c.args.self.now) (hole_in c.args.self.now) (effect (place p (round_hole c.args.self.now) (hole_in c.args.self.now)) (filling c.args.self.now) a)) (sym c.in-Replaces.is)
+
+pub give-requires-clause-next : goal.give-requires-clause-next
+give-requires-clause-next c =
+    subst (λ ls. IsNext c.args.next (next_code ls)) (sym c.vacate-item.ensures.layers)
+    (subst (λ a. HasWay a c.args.next (next_code (code_behind c.args.self.now.layers.0 c.args.self.now.redex))) c.in-Gives.is c.requires.next)
+
+pub pass-requires-clause-next : goal.pass-requires-clause-next
+pass-requires-clause-next c =
+    subst (λ ls. IsNext c.args.next (next_code ls)) (sym c.vacate-item.ensures.layers)
+    (subst (λ a. HasWay a c.args.next (next_code (code_behind c.args.self.now.layers.0 c.args.self.now.redex))) c.in-Passes.is c.requires.next)

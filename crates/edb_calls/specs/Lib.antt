@@ -1,0 +1,4 @@
+pub mod Exported
+pub mod Layered
+pub mod Listed
+pub mod Sites
