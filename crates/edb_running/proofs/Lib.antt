@@ -6,3 +6,4 @@ pub mod CommitLaws
 pub mod BeyondLaws
 pub mod Scans
 pub mod WayLaws
+pub mod SightLaws

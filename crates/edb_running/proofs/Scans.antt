@@ -1,8 +1,11 @@
 -- What is found outward of a hole, layer by layer.
 
-use Rattle.std.proofs.Common.{◌≡◌, ◌<◌, ◌≤◌, ◌+◌, ◌∷◌, [], ℕ, zero, suc, List, length, drop, slice_get, None, Some, refl, ap, ◌∙◌, arith}
+use Rattle.std.proofs.Common.{Bool, false, nat_eq, ◌≡◌, ◌<◌, ◌≤◌, ◌+◌, ◌∷◌, [], ℕ, zero, suc, List, length, drop, slice_get, None, Some, refl, ap, ◌∙◌, arith}
 use Rattle.std.proofs.lemmas.List.{drop_all}
-use Rattle.edb_syntax.specs.Syntax.{Exp}
+use Rattle.edb_syntax.specs.Syntax.{Exp, exps_of}
+use Rattle.edb_moves.specs.Running as run
+use Rattle.edb_stack.specs.Parts as parts
+use Rattle.edb_running.specs.Tails.{is_last}
 use Rattle.edb_stack.specs.declared.body.Body.{Body}
 use Rattle.edb_stack.specs.declared.doing.Doing.{Doing}
 use Rattle.edb_stack.specs.declared.item.Item.{Item}
@@ -45,3 +48,8 @@ search_ends (layer.Scope m) ls f g = refl
 search_ends (layer.Caught m) ls f g = refl
 search_ends (layer.Tried m cs hs) ls f g = refl
 search_ends (layer.Waiting m s) ls f g = refl
+
+-- a sequence of which something follows isn't last
+pub more_follow : (l : ℕ) (es : List Exp) (b : Bool) (ls : List parts.Layer) → b ≡ nat_eq (length es) 0 → b ≡ false → is_last (parts.frame (run.sequence l (exps_of es)) ∷ ls) ≡ false
+more_follow l [] b ls e f = absurd (cc)
+more_follow l (x ∷ es) b ls e f = refl

@@ -2,3 +2,4 @@ pub mod Standing
 pub mod Rising
 pub mod Outermost
 pub mod Vacant
+pub mod Tails

@@ -8,6 +8,6 @@ mod prepare;
 mod rise;
 mod running;
 
-pub use outward::next_code;
+pub use outward::{is_tail, next_code};
 pub use rise::Left;
 pub use running::Running;
