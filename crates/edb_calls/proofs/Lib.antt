@@ -1,7 +1,9 @@
 pub mod BuiltInLaws
 pub mod CallLaws
 pub mod EnteringLaws
+pub mod FunLaws
 pub mod FunctionLaws
 pub mod Limits
 pub mod Operands
+pub mod Places
 pub mod Scans

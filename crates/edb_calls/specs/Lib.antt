@@ -1,3 +1,4 @@
+pub mod Alone
 pub mod Exported
 pub mod Layered
 pub mod Listed

@@ -7,6 +7,7 @@ ghost use Rattle.edb_moves.specs.Running.{node, all_values};
 ghost use Rattle.edb_path.specs.Plans.{effect, Suits};
 ghost use Rattle.edb_stack.specs.Views.{doing_of};
 ghost use Rattle.edb_stack.specs.declared.item.Item.TheVariants.{Value};
+ghost use Rattle.edb_calls.specs.Alone.{IsAlone};
 
 use edb_lang::Term;
 use edb_path::Plan;
@@ -23,6 +24,7 @@ pub(crate) fn becomes<'a>(
 ) -> Result<Plan<'a>, AllocError>
     ensures effect { (p : Place) (v : Datum) → IfOk result (λ plan. effect p v plan ≡ turns p.bindings (node (doing_of doing.entry) (all_values (map (λ t. t.now) first.now ++ map (λ t. t.now) rest.now)))) }
     ensures suits { (n : ℕ) → IfOk result (Suits n) }
+    ensures alone { IfOk result IsAlone }
 {
     let mut items = values(alloc, first)?;
     let mut behind = values(alloc, rest)?;

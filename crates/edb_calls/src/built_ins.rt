@@ -7,6 +7,7 @@ ghost use Rattle.edb_moves.specs.Going.{Place};
 ghost use Rattle.edb_path.specs.Plans.{effect, Suits};
 ghost use Rattle.edb_table.specs.Marking.{is_auto};
 ghost use Rattle.edb_calls.specs.Listed.{key_of, IsListed};
+ghost use Rattle.edb_calls.specs.Alone.{IsAlone};
 
 use crate::becomes::becomes;
 use crate::raises::{answered, fails};
@@ -76,6 +77,7 @@ impl BuiltIn {
         requires arity { (key_of self).1.1 ≡ length args.now }
         ensures effect { (p : Place) (v : Datum) → p.me ≡ me → IfOk result (λ plan. effect p v plan ≡ built_in_move p (key_of self) (map (λ t. t.now) args.now)) }
         ensures suits { (n : ℕ) → IfOk result (Suits n) }
+        ensures alone { IfOk result IsAlone }
     {
         match self {
             BuiltIn::ApplyFun => apply_fun(alloc, args[0], args[1]),
@@ -89,6 +91,7 @@ impl BuiltIn {
 fn apply_fun<'a>(alloc: Global, fun: &Term, list: &Term) -> Result<Plan<'a>, AllocError>
     ensures effect { (p : Place) (v : Datum) → IfOk result (λ plan. effect p v plan ≡ applied_fun p fun.now list.now) }
     ensures suits { (n : ℕ) → IfOk result (Suits n) }
+    ensures alone { IfOk result IsAlone }
 {
     match list.elements(alloc)? {
         Some(args) => becomes(alloc, Doing::FunCall, &[fun], &args),
@@ -105,6 +108,7 @@ fn apply_name<'a>(
 ) -> Result<Plan<'a>, AllocError>
     ensures effect { (p : Place) (v : Datum) → IfOk result (λ plan. effect p v plan ≡ applied_name p home.now name.now list.now) }
     ensures suits { (n : ℕ) → IfOk result (Suits n) }
+    ensures alone { IfOk result IsAlone }
 {
     match list.elements(alloc)? {
         Some(args) => becomes(alloc, Doing::RemoteCall, &[home, name], &args),

@@ -15,6 +15,7 @@ ghost use Rattle.edb_syntax.specs.declared.operation.Operation.TheVariants.{Remo
 ghost use Rattle.edb_table.specs.Marking.{is_auto};
 ghost use Rattle.edb_calls.specs.Exported.{exported_call, target_of};
 ghost use Rattle.edb_calls.specs.Sites.{bodies_at, level_at, spot};
+ghost use Rattle.edb_calls.specs.Alone.{IsAlone};
 
 use crate::built_ins::BuiltIn;
 use crate::entering::Callee;
@@ -42,6 +43,7 @@ fn enter_function<'a>(
     requires room { level_at site.now < 2 ^ 63 }
     ensures effect { (v : Datum) → IfOk result (λ plan. effect (spot site.now) v plan ≡ calls.entered (spot site.now) unit.entry.now version function.entry.now.name function.entry.now.arity function.entry.now.clauses [] (map (λ t. t.now) args.now)) }
     ensures suits { (n : ℕ) → IfOk result (Suits n) }
+    ensures alone { IfOk result IsAlone }
 {
     let callee = Callee {
         unit,
@@ -55,7 +57,7 @@ fn enter_function<'a>(
 
 /// A call without a module, as if it were written in this module, of this version: its function of that name, or else a
 /// built-in that needs no module.
-pub fn own_plan<'a>(
+pub(crate) fn own_plan<'a>(
     alloc: Global,
     unit: &'a Unit<'a>,
     version: u32,
@@ -67,6 +69,7 @@ pub fn own_plan<'a>(
     requires room { level_at site.now < 2 ^ 63 }
     ensures effect { (v : Datum) → IfOk result (λ plan. effect (spot site.now) v plan ≡ calls.own_call (spot site.now) unit.entry.now version name.now (map (λ t. t.now) args.now)) }
     ensures suits { (n : ℕ) → IfOk result (Suits n) }
+    ensures alone { IfOk result IsAlone }
 {
     match function_of(unit, name, args.len()) {
         Some(function) => enter_function(alloc, unit, version, function, args, site),
@@ -83,6 +86,7 @@ fn auto_plan<'a>(
 ) -> Result<Plan<'a>, AllocError>
     ensures effect { (p : Place) (v : Datum) → p.me ≡ me → IfOk result (λ plan. effect p v plan ≡ (if is_auto (codes "erlang", (name.now, length args.now)) && is_unshared (codes "erlang", (name.now, length args.now)) then built_in_move p (codes "erlang", (name.now, length args.now)) (map (λ t. t.now) args.now) else raises.fails (codes "undef"))) }
     ensures suits { (n : ℕ) → IfOk result (Suits n) }
+    ensures alone { IfOk result IsAlone }
 {
     let Some(built_in) = BuiltIn::find("erlang", name.as_str(), args.len()) else {
         return fails(alloc, "undef");
@@ -94,7 +98,7 @@ fn auto_plan<'a>(
 }
 
 /// A call without a module: it stands in that of the innermost Body.
-pub fn local_plan<'a>(
+pub(crate) fn local_plan<'a>(
     alloc: Global,
     name: &Name,
     args: &[&Term],
@@ -104,6 +108,7 @@ pub fn local_plan<'a>(
     requires room { level_at site.now < 2 ^ 63 }
     ensures effect { (v : Datum) → IfOk result (λ plan. effect (spot site.now) v plan ≡ calls.local_call (spot site.now) (bodies_at site.now) name.now (map (λ t. t.now) args.now)) }
     ensures suits { (n : ℕ) → IfOk result (Suits n) }
+    ensures alone { IfOk result IsAlone }
 {
     match site.here {
         Some(body) => own_plan(alloc, body.unit, body.version, name, args, site),
@@ -112,7 +117,7 @@ pub fn local_plan<'a>(
 }
 
 /// A call with a module: the first two operands name the function.
-pub fn remote_plan<'a>(
+pub(crate) fn remote_plan<'a>(
     alloc: Global,
     program: &'a Program<'a>,
     versions: &Versions,
@@ -123,6 +128,7 @@ pub fn remote_plan<'a>(
     requires room { level_at site.now < 2 ^ 63 }
     ensures effect { (v : Datum) → IfOk result (λ plan. effect (spot site.now) v plan ≡ operation_move program.entry.now versions.now (spot site.now) (written RemoteCall) (map (λ t. t.now) operands.now)) }
     ensures suits { (n : ℕ) → IfOk result (Suits n) }
+    ensures alone { IfOk result IsAlone }
 {
     let Some(target) = Target::of(operands) else {
         return fails(alloc, "badarg");
@@ -178,6 +184,7 @@ fn named_plan<'a>(
     requires room { level_at site.now < 2 ^ 63 }
     ensures effect { (v : Datum) → IfOk result (λ plan. effect (spot site.now) v plan ≡ calls.remote_call program.entry.now versions.now (spot site.now) home.now name.now (map (λ t. t.now) args.now)) }
     ensures suits { (n : ℕ) → IfOk result (Suits n) }
+    ensures alone { IfOk result IsAlone }
 {
     match BuiltIn::find(home.as_str(), name.as_str(), args.len()) {
         Some(built_in) => built_in.plan(alloc, args, site.me),
@@ -199,6 +206,7 @@ fn exported_plan<'a>(
     requires room { level_at site.now < 2 ^ 63 }
     ensures effect { (v : Datum) → IfOk result (λ plan. effect (spot site.now) v plan ≡ exported_call (spot site.now) (calls.called_module program.entry.now versions.now (spot site.now) home.now) name.now (map (λ t. t.now) args.now)) }
     ensures suits { (n : ℕ) → IfOk result (Suits n) }
+    ensures alone { IfOk result IsAlone }
 {
     let Some(version) = version_called(versions, home, site) else {
         return fails(alloc, "undef");

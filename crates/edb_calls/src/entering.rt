@@ -10,6 +10,7 @@ ghost use Rattle.edb_stack.specs.Views.{info_of};
 ghost use Rattle.edb_syntax.specs.Syntax.{clauses_of};
 ghost use Rattle.edb_variables.specs.PairStacks.{newest_first};
 ghost use Rattle.edb_calls.specs.Sites.{bodies_at, level_at, spot};
+ghost use Rattle.edb_calls.specs.Alone.{IsAlone};
 
 use crate::raises::fails;
 use crate::site::Site;
@@ -51,6 +52,7 @@ impl<'a> Callee<'a> {
         requires room { level_at site.now < 2 ^ 63 }
         ensures effect { (v : Datum) → IfOk result (λ plan. effect (spot site.now) v plan ≡ calls.entered (spot site.now) self.entry.unit.now self.entry.version (unwrap_or (option_map (λ f. f.now) self.entry.name) (codes "fun")) self.entry.arity (clauses_of self.entry.clauses.now) (newest_first hidden.items) (map (λ t. t.now) args.now)) }
         ensures suits { (n : ℕ) → IfOk result (Suits n) }
+        ensures alone { IfOk result IsAlone }
     {
         let Some(choice) = choose(alloc, self.clauses, args, &[], &hidden, site.me)? else {
             return fails(alloc, "function_clause");
@@ -81,6 +83,7 @@ fn nest<'a>(
     requires { site.now.bodies ≡ length (bodies_at site.now) }
     ensures effect { (v : Datum) → IfOk result (λ plan. effect (spot site.now) v plan ≡ calls.nested (spot site.now) (body_of (info_of body.entry) (leaf (unbegun sequence.entry.now)))) }
     ensures suits { (n : ℕ) → IfOk result (Suits n) }
+    ensures alone { IfOk result IsAlone }
 {
     if site.is_tail {
         return Ok(Plan::Replaces(body, sequence));

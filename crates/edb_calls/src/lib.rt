@@ -1,4 +1,4 @@
-//! What a call does: operators, tuples and lists, built-ins, and functions by their names.
+//! What an operation on values does: operators, tuples and lists, built-ins, and calls.
 #![tactic(auto)]
 
 mod becomes;
@@ -6,9 +6,11 @@ mod built_ins;
 mod calls;
 mod entering;
 mod functions;
+mod funs;
+mod plan;
 mod raises;
 mod site;
 mod terms;
 
-pub use calls::{local_plan, own_plan, remote_plan};
+pub use plan::call_plan;
 pub use site::Site;

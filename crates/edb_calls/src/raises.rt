@@ -13,6 +13,7 @@ ghost use Rattle.edb_pure.specs.Answers.{limited_answer};
 ghost use Rattle.edb_pure.specs.Lists as lists;
 ghost use Rattle.edb_pure.specs.Answers.{raise};
 ghost use Rattle.edb_lang.specs.declared.small.Class.TheVariants.{Error};
+ghost use Rattle.edb_calls.specs.Alone.{IsAlone};
 
 use crate::terms::copies;
 use edb_lang::{Class, Limit, Name, Term};
@@ -42,6 +43,7 @@ fn atom_of(alloc: Global, text: &str) -> Result<Term, AllocError>
 pub(crate) fn answered<'a>(answer: Result<Term, Raise>) -> Plan<'a>
     ensures effect { (p : Place) (v : Datum) → effect p v result ≡ answered p answer }
     ensures suits { (n : ℕ) → Suits n result }
+    ensures alone { IsAlone result }
 {
     match answer {
         Ok(value) => Plan::Gives(Item::Value(value)),
@@ -53,6 +55,7 @@ pub(crate) fn answered<'a>(answer: Result<Term, Raise>) -> Plan<'a>
 pub(crate) fn fails<'a>(alloc: Global, reason: &str) -> Result<Plan<'a>, AllocError>
     ensures effect { (p : Place) (v : Datum) → IfOk result (λ plan. effect p v plan ≡ raises.fails reason.now) }
     ensures suits { (n : ℕ) → IfOk result (Suits n) }
+    ensures alone { IfOk result IsAlone }
 {
     Ok(Plan::Raises(error(alloc, reason)?))
 }
@@ -76,6 +79,7 @@ pub(crate) fn fails_with<'a>(
 ) -> Result<Plan<'a>, AllocError>
     ensures effect { (p : Place) (v t : Datum) → value ≡ limited t → IfOk result (λ plan. effect p v plan ≡ raises.fails_with reason.now t) }
     ensures suits { (n : ℕ) → IfOk result (Suits n) }
+    ensures alone { IfOk result IsAlone }
 {
     let reason = reason_with(alloc, reason, value)?;
     Ok(Plan::Raises(Raise {
@@ -122,6 +126,7 @@ pub(crate) fn fails_by_arity<'a>(
 ) -> Result<Plan<'a>, AllocError>
     ensures effect { (p : Place) (v : Datum) → IfOk result (λ plan. effect p v plan ≡ raises.fails_by_arity fun.now (map (λ t. t.now) args.now)) }
     ensures suits { (n : ℕ) → IfOk result (Suits n) }
+    ensures alone { IfOk result IsAlone }
 {
     let call = called(alloc, fun, args)?;
     fails_with(alloc, "badarity", call)

@@ -8,7 +8,7 @@ use Rattle.std.proofs.lemmas.Bool.Decides.{nat_tests}
 use Rattle.edb_table.specs.BuiltIns.{io_keys}
 use Rattle.edb_table.specs.Keys.{Key, same_key}
 use Rattle.edb_table.specs.Marking.{act_keys, is_shared}
-use Rattle.edb_notyet.specs.Calls.{is_apply, built_in_is_beyond}
+use Rattle.edb_notyet.specs.Calls.{built_in_is_beyond}
 
 and_false : (b : Bool) → (b && false) ≡ false
 and_false true = refl
@@ -27,14 +27,8 @@ unfolding act_keys io_keys
 no_shared h f n le =
     rw (no_key f n le act_keys refl, no_key f n le io_keys refl, and_false (bytes_eq h (codes "erlang")), and_false (bytes_eq h (codes "io"))) refl
 
-no_apply : (h f : List ℕ) (n : ℕ) → 256 ≤ n → is_apply (h, (f, n)) ≡ false
-no_apply h f n le =
-    let two : (n == 2) ≡ false = grind (arith, nat_tests) in
-    let three : (n == 3) ≡ false = grind (arith, nat_tests) in
-    rw (two, three, and_false (bytes_eq f (codes "apply")), and_false (bytes_eq h (codes "erlang"))) refl
-
 pub no_built_in : (h f : List ℕ) (n : ℕ) → 256 ≤ n → built_in_is_beyond (h, (f, n)) ≡ false
-no_built_in h f n le = rw (no_apply h f n le, no_shared h f n le) refl
+no_built_in h f n le = rw (no_shared h f n le) refl
 
 -- so it is no call without a module either
 pub no_imported : (own auto : Bool) (f : List ℕ) (n : ℕ) → 256 ≤ n → (own && (auto && built_in_is_beyond (codes "erlang", (f, n)))) ≡ false

@@ -1,12 +1,12 @@
 -- The operands of a call with its module, as a list.
 
-use Rattle.std.specs.Prelude.{ℕ, ◌+◌, ◌<◌, true, List, [], ◌∷◌, length}
+use Rattle.std.specs.Prelude.{ℕ, ◌+◌, ◌<◌, false, List, [], ◌∷◌, length}
 use Rattle.std.proofs.Common.{◌≡◌, refl, get_or, arith}
 use Rattle.edb_syntax.proofs.Lists.{count-exps_of}
 use Rattle.edb_syntax.specs.Syntax.{Exp, exps_of, count}
 use Rattle.edb_notyet.specs.Calls.{call_is_beyond, remote_call_is_beyond}
 
-pub call_short : (es : List Exp) → length es < 2 → true ≡ remote_call_is_beyond (exps_of es)
+pub call_short : (es : List Exp) → length es < 2 → false ≡ remote_call_is_beyond (exps_of es)
 call_short [] lt = refl
 call_short (e ∷ []) lt = refl
 call_short (e ∷ d ∷ es) lt = absurd (omega arith)

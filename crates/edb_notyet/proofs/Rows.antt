@@ -1,6 +1,6 @@
 -- What is run, what isn't run yet, and where it may stand.
 
-use Rattle.std.proofs.Common.{◌≡◌, true, false, [], ◌∷◌, codes, refl}
+use Rattle.std.proofs.Common.{◌≡◌, true, false, [], ◌∷◌, codes, None, refl}
 use Rattle.std.specs.List.{list_any, list_all}
 use Rattle.edb_table.specs.BuiltIns.{erlang_keys, io_keys}
 use Rattle.edb_table.specs.Marking.{named_keys, act_keys}
@@ -33,6 +33,16 @@ forms_run :
     -- `case X of Y -> Y end`, `if true -> X end`
     ∷ syntax.case 1 (var "X") (clauses_of (clause (pvar "Y" ∷ []) (var "Y") ∷ []))
     ∷ syntax.if_clauses 1 (clauses_of (guarded [] (word "true") (var "X") ∷ []))
+    -- `catch X`, `try X after 1 end`
+    ∷ syntax.catch 1 (var "X")
+    ∷ syntax.try 1 (seq (var "X") []) syntax.no_clauses syntax.no_catches (syntax.after (seq (num 1) []))
+    -- `fun(Y) -> Y end`, `fun f/1`, `fun m:f/1`, `X(1)`
+    ∷ syntax.fun_clauses 1 0 (clauses_of (clause (pvar "Y" ∷ []) (var "Y") ∷ []))
+    ∷ syntax.fun_local 1 0 (codes "f") 1
+    ∷ syntax.fun_remote 1 (codes "m") (codes "f") 1
+    ∷ fun_call (var "X") (num 1 ∷ [])
+    -- `[Y || Y <- X]`
+    ∷ syntax.comprehension 1 (var "Y") (qualifiers_of (syntax.generator (pvar "Y") (var "X") ∷ []))
     ∷ []
     )
     ≡ false
@@ -48,27 +58,19 @@ forms_beyond :
     ∷ syntax.receive_after 1 syntax.no_clauses (num 1) (seq (var "X") [])
     -- `X ! 1`
     ∷ forms.send 1 (var "X") (num 1)
-    -- `catch X`, `try X after 1 end`
-    ∷ syntax.catch 1 (var "X")
-    ∷ syntax.try 1 (seq (var "X") []) syntax.no_clauses syntax.no_catches (syntax.after (seq (num 1) []))
-    -- `fun(Y) -> Y end`, `fun f/1`, `fun m:f/1`, `X(1)`
-    ∷ syntax.fun_clauses 1 0 (clauses_of (clause (pvar "Y" ∷ []) (var "Y") ∷ []))
-    ∷ syntax.fun_local 1 0 (codes "f") 1
-    ∷ syntax.fun_remote 1 (codes "m") (codes "f") 1
-    ∷ fun_call (var "X") (num 1 ∷ [])
-    -- `[Y || Y <- X]`
-    ∷ syntax.comprehension 1 (var "Y") (qualifiers_of (syntax.generator (pvar "Y") (var "X") ∷ []))
+    -- `fun erlang:spawn/1`
+    ∷ syntax.fun_remote 1 (codes "erlang") (codes "spawn") 1
     ∷ []
     )
     ≡ true
 unfolding erlang_keys io_keys named_keys act_keys
 forms_beyond = refl
 
--- `catch X` in each place where a part may stand.
+-- `X ! 1` in each place where a part may stand.
 parts_count :
     list_all beyond
-    (let part = syntax.catch 1 (var "X") in
-    -- `{1, catch X}`, `1 + (catch X)`
+    (let part = forms.send 1 (var "X") (num 1) in
+    -- `{1, X ! 1}`, `1 + (X ! 1)`
     tuple (num 1 ∷ part ∷ [])
     ∷ forms.binary 1 Add (num 1) part
     -- on either side of `andalso` and of `orelse`
@@ -76,7 +78,7 @@ parts_count :
     ∷ syntax.and_also 1 (word "a") part
     ∷ syntax.or_else 1 part (word "a")
     ∷ syntax.or_else 1 (word "a") part
-    -- `Y = catch X`, `begin catch X, 1 end`, `begin 1, catch X end`
+    -- `Y = X ! 1`, `begin X ! 1, 1 end`, `begin 1, X ! 1 end`
     ∷ syntax.match 1 (pvar "Y") part
     ∷ syntax.begin 1 (seq part (num 1 ∷ []))
     ∷ syntax.begin 1 (seq (num 1) (part ∷ []))
@@ -85,9 +87,22 @@ parts_count :
     ∷ syntax.case 1 (num 1) (clauses_of (clause (pvar "Y" ∷ []) (num 1) ∷ clause (pvar "Y" ∷ []) part ∷ []))
     -- the body of a clause of an `if`
     ∷ syntax.if_clauses 1 (clauses_of (guarded [] (word "true") part ∷ []))
-    -- `f(catch X)`, `lists:sum(catch X)`
+    -- `f(X ! 1)`, `lists:sum(X ! 1)`
     ∷ local "f" (part ∷ [])
     ∷ named "lists" "sum" (part ∷ [])
+    -- what is tried, the body behind `of`, that behind `catch`, and that behind `after`
+    ∷ syntax.catch 1 part
+    ∷ syntax.try 1 (seq part []) syntax.no_clauses syntax.no_catches (syntax.after (seq (num 1) []))
+    ∷ syntax.try 1 (seq (num 1) []) (clauses_of (clause (pvar "Y" ∷ []) part ∷ [])) syntax.no_catches syntax.no_after
+    ∷ syntax.try 1 (seq (num 1) []) syntax.no_clauses (catches_of (syntax.catch_clause (pvar "C") (pvar "Y") None syntax.no_guard (seq part []) ∷ [])) syntax.no_after
+    ∷ syntax.try 1 (seq (num 1) []) syntax.no_clauses syntax.no_catches (syntax.after (seq part []))
+    -- the body of a fun, and the fun that is called
+    ∷ syntax.fun_clauses 1 0 (clauses_of (clause (pvar "Y" ∷ []) part ∷ []))
+    ∷ fun_call part []
+    -- a comprehension's element, its generator's list, and its filter
+    ∷ syntax.comprehension 1 part (qualifiers_of (syntax.generator (pvar "Y") (var "X") ∷ []))
+    ∷ syntax.comprehension 1 (var "Y") (qualifiers_of (syntax.generator (pvar "Y") part ∷ []))
+    ∷ syntax.comprehension 1 (num 1) (qualifiers_of (syntax.filter part ∷ []))
     ∷ []
     )
     ≡ true
@@ -95,16 +110,16 @@ unfolding erlang_keys io_keys named_keys act_keys
 parts_count = refl
 
 -- the second clause of a function
-later_clause : is_beyond (module_of (clause (pvar "X" ∷ []) (num 1) ∷ clause (pvar "X" ∷ []) (syntax.catch 1 (var "X")) ∷ [])) ≡ true
+later_clause : is_beyond (module_of (clause (pvar "X" ∷ []) (num 1) ∷ clause (pvar "X" ∷ []) (forms.send 1 (var "X") (num 1)) ∷ [])) ≡ true
 unfolding erlang_keys io_keys named_keys act_keys
 later_clause = refl
 
 -- the second function
-later_function : is_beyond (module_with (clause (pvar "X" ∷ []) (num 1) ∷ []) (clause (pvar "X" ∷ []) (syntax.catch 1 (var "X")) ∷ [])) ≡ true
+later_function : is_beyond (module_with (clause (pvar "X" ∷ []) (num 1) ∷ []) (clause (pvar "X" ∷ []) (forms.send 1 (var "X") (num 1)) ∷ [])) ≡ true
 unfolding erlang_keys io_keys named_keys act_keys
 later_function = refl
 
--- Guards aren't looked at: `f(X) when catch X -> 1.`
-guards_left : is_beyond (module_of (guarded (pvar "X" ∷ []) (syntax.catch 1 (var "X")) (num 1) ∷ [])) ≡ false
+-- Guards aren't looked at: `f(X) when X ! 1 -> 1.`
+guards_left : is_beyond (module_of (guarded (pvar "X" ∷ []) (forms.send 1 (var "X") (num 1)) (num 1) ∷ [])) ≡ false
 unfolding erlang_keys io_keys named_keys act_keys
 guards_left = refl

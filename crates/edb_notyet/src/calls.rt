@@ -2,6 +2,7 @@
 
 ghost use Rattle.std.specs.Prelude.{◌≡◌, codes};
 ghost use Rattle.edb_syntax.specs.Syntax.{exps_of};
+ghost use Rattle.edb_moves.specs.Next as next;
 ghost use Rattle.edb_notyet.specs.Calls as calls;
 
 use edb_lang::Name;
@@ -9,26 +10,19 @@ use edb_syntax::{Expr, ExprNode, Operation};
 use edb_table::marks_of;
 use edb_units::Unit;
 
-// Whether this is `erlang:display/1`.
-fn is_display(home: &str, name: &str, arity: u8) -> bool
-    ensures { result ≡ calls.is_display (home.now, (name.now, arity)) }
+// Whether a built-in of this module and name with so many parameters prints.
+fn prints(home: &str, name: &str, arity: u8) -> bool
+    ensures { result ≡ next.prints (home.now, (name.now, arity)) }
 {
-    home == "erlang" && name == "display" && arity == 1
-}
-
-// Whether this is `erlang:apply/2` or `erlang:apply/3`.
-fn is_apply(home: &str, name: &str, arity: u8) -> bool
-    ensures { result ≡ calls.is_apply (home.now, (name.now, arity)) }
-{
-    home == "erlang" && name == "apply" && (arity == 2 || arity == 3)
+    (home == "erlang" && name == "display" && arity == 1)
+        || (home == "io" && name == "format" && (arity == 1 || arity == 2))
 }
 
 // Whether this is a built-in that isn't run yet.
 fn built_in_is_beyond(home: &str, name: &str, arity: u8) -> bool
     ensures { result ≡ calls.built_in_is_beyond (home.now, (name.now, arity)) }
 {
-    is_apply(home, name, arity)
-        || (marks_of(home, name, arity).shared && !is_display(home, name, arity))
+    marks_of(home, name, arity).shared && !prints(home, name, arity)
 }
 
 // Whether a call without a module isn't run yet.
@@ -44,7 +38,7 @@ fn local_call_is_beyond(unit: &Unit<'_>, name: &Name, arity: usize) -> bool
 }
 
 // Whether a call with this module and this name isn't run yet.
-fn named_call_is_beyond(home: &Name, name: &Name, arity: usize) -> bool
+pub(crate) fn named_call_is_beyond(home: &Name, name: &Name, arity: usize) -> bool
     ensures { result ≡ calls.built_in_is_beyond (home.now, (name.now, arity)) }
 {
     match u8::try_from(arity) {
@@ -60,9 +54,9 @@ fn call_is_beyond(home: &Expr, name: &Expr, arity: usize) -> bool
     match &home.node {
         ExprNode::Atom(home) => match &name.node {
             ExprNode::Atom(name) => named_call_is_beyond(home, name, arity),
-            _ => true,
+            _ => false,
         },
-        _ => true,
+        _ => false,
     }
 }
 
@@ -72,7 +66,7 @@ fn remote_call_is_beyond(operands: &[Expr]) -> bool
 {
     match operands {
         [home, name, args @ ..] => call_is_beyond(home, name, args.len()),
-        _ => true,
+        _ => false,
     }
 }
 
@@ -89,6 +83,6 @@ pub(crate) fn operation_is_beyond(unit: &Unit<'_>, operation: &Operation, operan
         Operation::Send => true,
         Operation::LocalCall(name) => local_call_is_beyond(unit, name, operands.len()),
         Operation::RemoteCall => remote_call_is_beyond(operands),
-        Operation::FunCall => true,
+        Operation::FunCall => false,
     }
 }

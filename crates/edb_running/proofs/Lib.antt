@@ -7,3 +7,5 @@ pub mod BeyondLaws
 pub mod Scans
 pub mod WayLaws
 pub mod SightLaws
+pub mod LandedLaws
+pub mod UnwindLaws

@@ -3,3 +3,4 @@ pub mod Rising
 pub mod Outermost
 pub mod Vacant
 pub mod Tails
+pub mod Landed

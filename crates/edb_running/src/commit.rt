@@ -31,7 +31,7 @@ use std::mem;
 
 impl<'a> Running<'a> {
     /// Does what a plan says that raises nothing, with the way and the room that `prepare` made. Takes no memory.
-    pub fn commit(&mut self, plan: Plan<'a>, next: Option<Path<'a>>) -> Left<'a>
+    pub(crate) fn commit(&mut self, plan: Plan<'a>, next: Option<Path<'a>>) -> Left<'a>
         requires sound { Sound self.old }
         requires quiet { (r : Raise) → plan ≢ Raises r }
         requires suits { Suits (length (hole_in self.old).bindings) plan }
@@ -63,7 +63,7 @@ impl<'a> Running<'a> {
 
     /// What fills the innermost layer goes, and that layer with it; the value. Where no value stands in the hole, nothing
     /// goes, and the value is `[]`.
-    fn vacate(&mut self) -> Item<'a>
+    pub(crate) fn vacate(&mut self) -> Item<'a>
         requires sound { Sound self.old }
         ensures layers { self.new.layers.0 ≡ code_behind self.old.layers.0 self.old.redex }
         ensures info { info_in self.new ≡ hole_in self.old }
@@ -200,7 +200,7 @@ impl<'a> Running<'a> {
 }
 
 /// A sequence of which no expression is begun.
-fn unbegun<'a>(sequence: &'a Sequence) -> Leaf<'a>
+pub(crate) fn unbegun<'a>(sequence: &'a Sequence) -> Leaf<'a>
     ensures { leaf_of result ≡ leaves.unbegun sequence.entry.now }
 {
     Leaf::Unbegun(&sequence.first, &sequence.rest)

@@ -12,7 +12,7 @@ use edb_syntax::Expr;
 
 /// The code that is evaluated next once a value stands in the hole of these layers, without the `depth` innermost of them;
 /// `None` if the value ends the whole expression, fills a layer, or is the last of operands that are not literals.
-pub fn next_code<'a>(layers: &Stack<Layer<'a>>, depth: usize) -> Option<&'a Expr>
+pub(crate) fn next_code<'a>(layers: &Stack<Layer<'a>>, depth: usize) -> Option<&'a Expr>
     ensures { option_map (λ e. e.now) result ≡ rising.next_code (drop depth layers.now.0) }
 {
     let mut place = depth;

@@ -15,7 +15,7 @@ use std::alloc::{AllocError, Global};
 impl<'a> Running<'a> {
     /// The way that a plan needs, with room for what it brings. The expression stays as it is, also where memory is refused.
     /// `AllocError` only if out of memory.
-    pub fn prepare(
+    pub(crate) fn prepare(
         &mut self,
         alloc: Global,
         plan: &Plan<'a>,
@@ -51,7 +51,7 @@ impl<'a> Running<'a> {
     }
 
     /// Room for so many layers and one more, and for so many pairs.
-    fn make_room(&mut self, layers: usize, pairs: usize) -> Result<(), AllocError>
+    pub(crate) fn make_room(&mut self, layers: usize, pairs: usize) -> Result<(), AllocError>
         ensures room { OnOk result (layers + 1 ≤ self.new.layers.1) }
         ensures pair_room { OnOk result (pairs ≤ self.new.here.variables.room) }
         ensures layers { self.new.layers.0 ≡ self.old.layers.0 }
@@ -80,7 +80,7 @@ impl<'a> Running<'a> {
 }
 
 /// How many layers a way has.
-fn way_length(next: &Option<Path>) -> usize
+pub(crate) fn way_length(next: &Option<Path>) -> usize
     ensures { result ≡ next_count next.now }
 {
     match next {
@@ -90,7 +90,7 @@ fn way_length(next: &Option<Path>) -> usize
 }
 
 /// The way to the code that `next_code` finds.
-fn next_way<'a>(
+pub(crate) fn next_way<'a>(
     alloc: Global,
     layers: &Stack<Layer<'a>>,
     depth: usize,
